@@ -1,0 +1,305 @@
+-- The laws of the number coding, over its width, and of writing to the front of an output. Callers cite these and not the
+-- definitions' text. Assumes nothing.
+use mathlib.Core.Path.{_≡_, refl, ap, sym, _∙_}
+use Prim.Native.Nat.{ℕ, zero, suc, _+_, _-_, _*_, _/_, _%_, _^_, _≤_, _<_}
+use native.Mathlib.Numerals.{add-one}
+use native.Mathlib.Nat.{two-pow-succ, zero-add, add-zero}
+use lib.Pow.{pow-add, pow-mono}
+use native.Mathlib.Omega.{arith}
+use mathlib.Core.List.{List, [], _∷_, _++_, append-assoc}
+use mathlib.Core.Bool.{Bool, true, false, cond}
+use lib.ListN.{length, getD, take, drop, set, length-drop, length-append, take-append-drop, drop-of-length-le}
+use lib.Seq.{take-all, drop-cons, take-take, take-append-seam, drop-append-seam, getD-drop, sets, sets-eq}
+use lib.Dec.{ltb, leb, eqb}
+use borrow.Author.Tests.{leb-true, leb-false, ltb-true, ltb-false, eqb-true, eqb-false, lt-ltb, le-ltb, le-leb, lt-leb, ne-eqb}
+use Rattle.numbers.specs.declared.Reading.{Reading}
+use Rattle.numbers.specs.declared.Reading.the-variants.{Number, Nothing}
+use Rattle.numbers.specs.declared.Written.the-variants.{Length, Refused}
+use Rattle.numbers.specs.Coding.{Bytes, joined, reading, below, readingOf, onward, coded, rowBytes}
+use Rattle.numbers.specs.Writing.{numberOf, lengthOf, Outcome, written, outcome}
+
+-- a reading is not both a number and nothing
+pub never : {r : Reading} {v at : ℕ} → r ≡ Nothing → r ≡ Number v at → ⊥
+never e f = let z : _≡_ {A = ℕ} 0 1 = cc in omega arith
+
+-- ---- a reading as a relation, for inductions
+
+data Read : List ℕ → ℕ → ℕ → Type 0 where
+  single : {b : ℕ} {s : List ℕ} → b < 128 → Read (b ∷ s) b 1
+  longer : {b : ℕ} {s : List ℕ} {v at : ℕ} → 128 ≤ b → 0 < v → Read s v at → Read (b ∷ s) ((b - 128) + v * 128) (suc at)
+
+reads : {s : List ℕ} {v at : ℕ} → Read s v at → reading s ≡ Number v at
+unfolding reading
+reads (single h) = simp (lt-ltb _ _ h)
+reads (longer {b} {s} {v} {at} h p r) = simp (le-ltb _ _ h, reads r, ne-eqb v 0 (omega arith), add-one at)
+
+read : (s : List ℕ) {v at : ℕ} → reading s ≡ Number v at → Read s v at
+unfolding reading
+read [] e = absurd (never refl e)
+read (b ∷ s) {v} {at} e = go (ltb b 128) refl (reading s) refl (λ v at e. read s e) e
+  where
+    done : (t : Bool) (high k : ℕ) → eqb high 0 ≡ t → 128 ≤ b → Read s high k → cond t Nothing (Number ((b - 128) + high * 128) (k + 1)) ≡ Number v at → Read (b ∷ s) v at
+    done true high k q h r e = absurd (never refl e)
+    done false high k q h r e =
+        let p : (b - 128) + high * 128 ≡ v = cc in
+        let a : suc k ≡ at = sym (add-one k) ∙ cc in
+        let pos : 0 < high = omega (arith, eqb-false high 0 q) in
+        rw (← p, ← a) (longer h pos r)
+
+    go : (t : Bool) → ltb b 128 ≡ t → (r : Reading) → reading s ≡ r → ((v at : ℕ) → reading s ≡ Number v at → Read s v at) → cond t (Number b 1) (joined (b - 128) r) ≡ Number v at → Read (b ∷ s) v at
+    go true q r f ih e =
+        let p : b ≡ v = cc in
+        let a : 1 ≡ at = cc in
+        rw (← p, ← a) (single (ltb-true b 128 q))
+    go false q Nothing f ih e = absurd (never refl e)
+    go false q (Number high k) f ih e = done (eqb high 0) high k refl (ltb-false b 128 q) (ih high k f) e
+
+read-place : {s : List ℕ} {v at : ℕ} → Read s v at → (0 < at) × (at ≤ length s)
+read-place (single h) = (omega arith, omega arith)
+read-place (longer h p r) = let ih = read-place r in (omega arith, omega arith)
+
+pub reading-place : (s : List ℕ) {v at : ℕ} → reading s ≡ Number v at → (0 < at) × (at ≤ length s)
+reading-place s e = read-place (read s e)
+
+read-alone : {s : List ℕ} {v at : ℕ} → Read s v at → (t : List ℕ) → Read (take at s ++ t) v at
+read-alone (single h) t = single h
+read-alone (longer h p r) t = longer h p (read-alone r t)
+
+read-coded : (w v : ℕ) → v < 2 ^ w → (t : List ℕ) → Read (coded w v ++ t) v (length (coded w v))
+unfolding coded
+read-coded zero v h t = let small : v < 128 = omega arith in single small
+read-coded (suc k) v h t = go (ltb v 128) refl (read-coded k (v / 128))
+  where
+    go : (b : Bool) → ltb v 128 ≡ b → (v / 128 < 2 ^ k → (t : List ℕ) → Read (coded k (v / 128) ++ t) (v / 128) (length (coded k (v / 128)))) → Read (cond b (v ∷ []) ((v % 128 + 128) ∷ coded k (v / 128)) ++ t) v (length (cond b (v ∷ []) ((v % 128 + 128) ∷ coded k (v / 128))))
+    go true q ih = single (ltb-true v 128 q)
+    go false q ih =
+        let big : 128 ≤ v = ltb-false v 128 q in
+        let fits : v / 128 < 2 ^ k = omega (arith, two-pow-succ k) in
+        let pos : 0 < v / 128 = omega arith in
+        let low : 128 ≤ v % 128 + 128 = omega arith in
+        let whole : (v % 128 + 128 - 128) + v / 128 * 128 ≡ v = omega arith in
+        rw whole at (longer low pos (ih fits t))
+
+read-shortest : {s : List ℕ} {v at : ℕ} → Read s v at → (w : ℕ) → v < 2 ^ w → Bytes s → take at s ≡ coded w v
+unfolding coded
+read-shortest (single h) zero f bytes = refl
+read-shortest (single {b} h) (suc k) f bytes = simp (lt-ltb b 128 h)
+read-shortest (longer {b} {s} {v} {at} h p r) zero f bytes = absurd (omega arith)
+read-shortest (longer {b} {s} {v} {at} h p r) (suc k) f bytes =
+    let byte : b < 256 = bytes 0 in
+    let big : 128 ≤ (b - 128) + v * 128 = omega arith in
+    let fits : v < 2 ^ k = omega (arith, two-pow-succ k) in
+    let high : ((b - 128) + v * 128) / 128 ≡ v = omega arith in
+    let low : ((b - 128) + v * 128) % 128 + 128 ≡ b = omega arith in
+    simp (le-ltb ((b - 128) + v * 128) 128 big, high, low) (ap (λ (l : List ℕ). b ∷ l) (read-shortest r k fits (λ i. bytes (suc i))))
+
+read-size : {s : List ℕ} {v at : ℕ} → Read s v at → (w : ℕ) → 0 < w → v < 2 ^ w → 7 * at < w + 7
+read-size (single h) w pos f = omega arith
+read-size (longer {b} {s} {v} {at} h p r) w pos f = go (leb w 7) refl (λ w p f. read-size r w p f)
+  where
+    go : (t : Bool) → leb w 7 ≡ t → ((w : ℕ) → 0 < w → v < 2 ^ w → 7 * at < w + 7) → 7 * suc at < w + 7
+    go true q ih = absurd (omega (arith, pow-mono (leb-true w 7 q)))
+    go false q ih =
+        let large : 7 < w = leb-false w 7 q in
+        let parts : w - 7 + 7 ≡ w = omega arith in
+        let both : 2 ^ w ≡ 2 ^ (w - 7) * 128 = rw parts at (pow-add 2 (w - 7) 7) in
+        let fits : v < 2 ^ (w - 7) = omega arith in
+        let ih7 = ih (w - 7) (omega arith) fits in
+        omega arith
+
+-- ---- a number of width w
+
+-- a bounded reading is the reading, and its number is within the bound
+pub kept : (m : ℕ) (r : Reading) {v at : ℕ} → below m r ≡ Number v at → (r ≡ Number v at) × (v < m)
+kept m Nothing e = absurd (never refl e)
+kept m (Number u k) {v} {at} e = go (ltb u m) refl e
+  where
+    go : (t : Bool) → ltb u m ≡ t → cond t (Number u k) Nothing ≡ Number v at → (Number u k ≡ Number v at) × (v < m)
+    go true q e = let same : u ≡ v = cc in (e, omega (arith, ltb-true u m q))
+    go false q e = absurd (never refl e)
+
+from-reading : (w : ℕ) (s : List ℕ) {v at : ℕ} → readingOf w s ≡ Number v at → (Read s v at) × (v < 2 ^ w)
+unfolding readingOf
+from-reading w s e = let k = kept (2 ^ w) (reading s) e in (read s (k .0), k .1)
+
+to-reading : (w : ℕ) {s : List ℕ} {v at : ℕ} → Read s v at → v < 2 ^ w → readingOf w s ≡ Number v at
+unfolding readingOf
+to-reading w {s} {v} {at} r f = rw (reads r) (simp (lt-ltb v (2 ^ w) f))
+
+-- what is written reads as the number, with the place after it, whatever follows
+pub round-trip : (w v : ℕ) (t : List ℕ) → v < 2 ^ w → readingOf w (coded w v ++ t) ≡ Number v (length (coded w v))
+round-trip w v t f = to-reading w (read-coded w v f t) f
+
+module _ (w : ℕ) (s : List ℕ) {v at : ℕ} (e : readingOf w s ≡ Number v at) where
+  pub fits : v < 2 ^ w
+  fits = from-reading w s e .1
+
+  -- a number ends within the bytes, past the first
+  pub place : (0 < at) × (at ≤ length s)
+  place = read-place (from-reading w s e .0)
+
+  -- the bytes from the place on do not matter
+  pub after : (t : List ℕ) → readingOf w (take at s ++ t) ≡ Number v at
+  after t = to-reading w (read-alone (from-reading w s e .0) t) fits
+
+  -- only what is written is read
+  pub shortest : Bytes s → take at s ≡ coded w v
+  shortest bytes = read-shortest (from-reading w s e .0) w fits bytes
+
+  -- seven bits a byte
+  pub size : 0 < w → 7 * at < w + 7
+  size pos = read-size (from-reading w s e .0) w pos fits
+
+  -- the number's bytes, and those from its place on
+  pub split : Bytes s → s ≡ coded w v ++ drop at s
+  split bytes = sym (take-append-drop at s) ∙ ap (λ (l : List ℕ). l ++ drop at s) (shortest bytes)
+
+-- a reading of the first k bytes, at seven bits a byte or more, is the reading of them all
+pub enough : (w k : ℕ) (s : List ℕ) → 0 < w → w ≤ 7 * k → readingOf w (take k s) ≡ readingOf w s
+enough w k s pos h = go (readingOf w s) refl (readingOf w (take k s)) refl
+  where
+    parts : take k s ++ drop k s ≡ s
+    parts = take-append-drop k s
+
+    -- what the first k bytes read as, all of them do
+    more : {v at : ℕ} → readingOf w (take k s) ≡ Number v at → readingOf w s ≡ Number v at
+    more {v} {at} e =
+        let whole : take at (take k s) ++ (drop at (take k s) ++ drop k s) ≡ s = rw (← append-assoc, take-append-drop) parts in
+        rw whole at (after w (take k s) e (drop at (take k s) ++ drop k s))
+
+    -- and back, since a number takes no more than k bytes
+    less : {v at : ℕ} → readingOf w s ≡ Number v at → readingOf w (take k s) ≡ Number v at
+    less {v} {at} e =
+        let short : at ≤ k = omega (arith, size w s e pos) in
+        let same : take at s ++ drop at (take k s) ≡ take k s = ap (λ (l : List ℕ). l ++ drop at (take k s)) (sym (take-take at k s short)) ∙ take-append-drop at (take k s) in
+        rw same at (after w s e (drop at (take k s)))
+
+    go : (a : Reading) → readingOf w s ≡ a → (b : Reading) → readingOf w (take k s) ≡ b → readingOf w (take k s) ≡ readingOf w s
+    go a p (Number v at) q = q ∙ sym (more q)
+    go (Number v at) p Nothing q = less p ∙ sym p
+    go Nothing p Nothing q = q ∙ sym p
+
+-- ---- a record: numbers one after another
+
+-- a number that is written is read, and what follows it goes on
+pub onward-written : {A : Type 0} (v : ℕ) (t : List ℕ) (refused : A) (next : ℕ → List ℕ → A) → v < 2 ^ 32
+    → onward (readingOf 32 (coded 32 v ++ t)) (coded 32 v ++ t) refused next ≡ next v t
+onward-written v t refused next f = rw (round-trip 32 v t f, drop-append-seam (coded 32 v) t)
+
+-- what is not refused was a number, and its rest was not refused
+pub onward-number : {A : Type 0} (Good : A → Type 0) (r : Reading) (s : List ℕ) (refused : A) (next : ℕ → List ℕ → A) → (Good refused → ⊥)
+    → Good (onward r s refused next) → (v : ℕ) × (at : ℕ) × (r ≡ Number v at) × Good (next v (drop at s))
+onward-number Good Nothing s refused next bad g = absurd (bad g)
+onward-number Good (Number v at) s refused next bad g = (v, at, refl, g)
+
+-- bytes from a place on are bytes
+pub bytes-drop : (n : ℕ) (s : List ℕ) → Bytes s → Bytes (drop n s)
+bytes-drop n s b i = rw getD-drop (b (n + i))
+
+-- the part of a slice from n on, as the code has it
+pub rest : (n : ℕ) (s : List ℕ) → take (length s - n) (drop n s) ≡ drop n s
+rest n s = take-all (length s - n) (drop n s) (omega (arith, length-drop n s))
+
+-- ---- the bytes of a number
+
+pub coded-small : (w v : ℕ) → v < 128 → coded w v ≡ v ∷ []
+unfolding coded
+coded-small zero v h = refl
+coded-small (suc k) v h = simp (lt-ltb v 128 h)
+
+coded-room : (k v : ℕ) → v < 2 ^ k → coded (suc k) v ≡ coded k v
+unfolding coded
+coded-room zero v h = let small : v < 128 = omega arith in simp (lt-ltb v 128 small)
+coded-room (suc k) v h = go (ltb v 128) refl (coded-room k (v / 128))
+  where
+    go : (t : Bool) → ltb v 128 ≡ t → (v / 128 < 2 ^ k → coded (suc k) (v / 128) ≡ coded k (v / 128)) → cond t (v ∷ []) ((v % 128 + 128) ∷ coded (suc k) (v / 128)) ≡ cond t (v ∷ []) ((v % 128 + 128) ∷ coded k (v / 128))
+    go true q ih = refl
+    go false q ih =
+        let big : 128 ≤ v = ltb-false v 128 q in
+        ap (λ (l : List ℕ). (v % 128 + 128) ∷ l) (ih (omega (arith, two-pow-succ k)))
+
+pub coded-big : (w v : ℕ) → v < 2 ^ w → 128 ≤ v → coded w v ≡ (v % 128 + 128) ∷ coded w (v / 128)
+unfolding coded
+coded-big zero v f h = absurd (omega arith)
+coded-big (suc k) v f h =
+    let e : coded (suc k) (v / 128) ≡ coded k (v / 128) = coded-room k (v / 128) (omega (arith, two-pow-succ k)) in
+    rw e (simp (le-ltb v 128 h))
+
+-- a byte for each seven bits begun of the number itself, whatever the width that it is written at
+pub coded-size-of : (w bits v : ℕ) → 0 < bits → v < 2 ^ w → v < 2 ^ bits → 7 * length (coded w v) < bits + 7
+coded-size-of w bits v pos f g = read-size (read-coded w v f []) bits pos g
+
+pub coded-size : (w v : ℕ) → 0 < w → v < 2 ^ w → 7 * length (coded w v) < w + 7
+coded-size w v pos f = coded-size-of w w v pos f f
+
+-- ---- the bytes of a row
+
+pub row-next : (row : List ℕ) (i : ℕ) → i < length row → rowBytes (drop i row) ≡ coded 32 (getD row i 0) ++ rowBytes (drop (i + 1) row)
+unfolding rowBytes
+row-next row i h = rw (drop-cons row i 0 h, add-one)
+
+pub row-done : (row : List ℕ) (i : ℕ) → length row ≤ i → rowBytes (drop i row) ≡ []
+unfolding rowBytes
+row-done row i h = rw (drop-of-length-le row h)
+
+pub row-size : (row : List ℕ) → ((i : ℕ) → getD row i 0 < 2 ^ 32) → length (rowBytes row) ≤ 5 * length row
+unfolding rowBytes
+row-size [] f = omega arith
+row-size (v ∷ row) f =
+    let ih = row-size row (λ i. f (suc i)) in
+    let v-fits : v < 2 ^ 32 = f 0 in
+    simp length-append (omega (arith, coded-size 32 v (omega arith) v-fits))
+
+-- ---- writing
+
+pub sets-append : (l : List ℕ) (i : ℕ) (x y : List ℕ) → sets l i (x ++ y) ≡ sets (sets l i x) (i + length x) y
+sets-append l i [] y = rw add-zero
+sets-append l i (a ∷ x) y = sets-append (set l i a) (suc i) x y ∙ ap (λ (k : ℕ). sets (sets (set l i a) (suc i) x) k y) (omega arith)
+
+-- what a writer that has room for the bytes leaves, once it has stored them; and what one that has not
+module _ (bytes out : List ℕ) (n : ℕ) (counted : n ≡ length bytes) where
+  pub written-fits : n ≤ length out → (end : List ℕ) → end ≡ sets out 0 bytes
+      → (Length n ≡ written bytes out .answer) × (end ≡ written bytes out .out)
+  unfolding outcome
+  written-fits h end e =
+      let fits-in : length bytes ≤ length out = omega arith in
+      let stored : end ≡ bytes ++ drop (length bytes) out = e ∙ sets-eq bytes out 0 (omega arith) ∙ simp zero-add in
+      (simp (le-leb (length bytes) (length out) fits-in, counted), simp (le-leb (length bytes) (length out) fits-in) stored)
+
+  pub written-over : length out < n → (Refused 8 ≡ written bytes out .answer) × (out ≡ written bytes out .out)
+  unfolding outcome
+  written-over h =
+      let over : length out < length bytes = omega arith in
+      (simp (lt-leb (length bytes) (length out) over), simp (lt-leb (length bytes) (length out) over))
+
+-- what an answer says of the outcome's number and bytes
+module _ (number : ℕ) (bytes out : List ℕ) where
+  abbrev settled : Bool → Outcome
+  settled t = cond t (record { answer = Length (length bytes); out = bytes ++ drop (length bytes) out }) (record { answer = Refused number; out = out })
+
+  pub answered-length : (n : ℕ) → outcome number bytes out .answer ≡ Length n → n ≡ length bytes
+  unfolding outcome
+  answered-length n e = go (eqb number 0) e
+    where
+      go : (t : Bool) → settled t .answer ≡ Length n → n ≡ length bytes
+      go true e = cc
+      go false e = absurd (let z : _≡_ {A = ℕ} 0 1 = cc in omega arith)
+
+  pub answered-number : (k : ℕ) → outcome number bytes out .answer ≡ Refused k → k ≡ number
+  unfolding outcome
+  answered-number k e = go (eqb number 0) e
+    where
+      go : (t : Bool) → settled t .answer ≡ Refused k → k ≡ number
+      go true e = absurd (let z : _≡_ {A = ℕ} 0 1 = cc in omega arith)
+      go false e = cc
+
+  -- the front of the output, as long as was answered, is what was to be written
+  pub accepted : numberOf (outcome number bytes out .answer) ≡ 0
+      → (number ≡ 0) × (take (lengthOf (outcome number bytes out .answer)) (outcome number bytes out .out) ≡ bytes)
+  unfolding outcome
+  accepted e = go (eqb number 0) refl e
+    where
+      go : (t : Bool) → eqb number 0 ≡ t → numberOf (settled t .answer) ≡ 0
+          → (number ≡ 0) × (take (lengthOf (settled (eqb number 0) .answer)) (settled (eqb number 0) .out) ≡ bytes)
+      go true h e = (eqb-true number 0 h, rw h (take-append-seam bytes (drop (length bytes) out)))
+      go false h e = absurd (eqb-false number 0 h e)

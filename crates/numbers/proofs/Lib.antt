@@ -1,0 +1,6 @@
+pub mod Checks
+pub mod Laws
+pub mod Promises
+pub mod Tight
+mod Upto
+mod Determined
