@@ -1,0 +1,27 @@
+-- Tightness of this crate's public functions. Assumes nothing.
+use Rattle.numbers.proofs.Tight.{only, OneAnswer, OneOutcome}
+use Rattle.plan.proofs.plan_ok.Reads as plan-ok
+use Rattle.plan.proofs.plan_ok.Kinds as plan-ok-kinds
+use Rattle.plan.proofs.store_ok.Reads as store-ok
+use Rattle.plan.proofs.store_ok.Kinds as store-ok-kinds
+use Rattle.plan.proofs.charge.Reads as charge
+use Rattle.plan.proofs.charge.Kinds as charge-kinds
+use Rattle.plan.proofs.read_plan.Reads as read-plan
+use Rattle.plan.proofs.read_plan.Kinds as read-plan-kinds
+use Rattle.plan.proofs.write_plan.Reads as write-plan
+use Rattle.plan.proofs.write_plan.Kinds as write-plan-kinds
+
+pub plan-ok-tight : OneAnswer 0 plan-ok-kinds.ps plan-ok-kinds.r plan-ok.Post
+plan-ok-tight κs a z z′ e e′ p q = only p q
+
+pub store-ok-tight : OneAnswer 0 store-ok-kinds.ps store-ok-kinds.r store-ok.Post
+store-ok-tight κs a z z′ e e′ p q = only p q
+
+pub charge-tight : OneAnswer 0 charge-kinds.ps charge-kinds.r charge.Post
+charge-tight κs a z z′ e e′ p q = only p q
+
+pub read-plan-tight : OneAnswer 1 read-plan-kinds.ps read-plan-kinds.r read-plan.Post
+read-plan-tight κs a z z′ e e′ p q = only p q
+
+pub write-plan-tight : OneOutcome 1 write-plan-kinds.ps write-plan-kinds.r write-plan.Post (λ κs e. e .1 .0 .now)
+write-plan-tight κs a z z′ e e′ p q = (only (p .0) (q .0), only (p .1) (q .1))

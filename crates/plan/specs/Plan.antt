@@ -1,0 +1,37 @@
+-- When a plan keeps to the table of ranges, and what a packet is charged.
+use Prim.Native.Nat.{ℕ, _+_, _-_}
+use mathlib.Core.Bool.{Bool, _&&_}
+use mathlib.Core.List.{_++_}
+use lib.ListN.{take, getD, replicate}
+use Rattle.numbers.specs.Checks.{inRange, allBelow}
+use Rattle.plan.specs.declared.Plan.{Plan}
+use Rattle.plan.specs.Limits.{leastLines, mostLines, leastMax, mostMax, mostQuantum, leastInterval, mostInterval, itemHead, mostStore}
+
+-- line i's quantum
+abbrev pub quantum : Plan → ℕ → ℕ
+quantum p i = getD (p .quanta) i 0
+
+-- what a packet of `length` bytes is charged on line i: its length
+unfoldable pub chargeOf : Plan → ℕ → ℕ → ℕ
+chargeOf p i length = length
+
+abbrev pub quantumOk : Plan → ℕ → Bool
+quantumOk p i = inRange (p .max) (quantum p i) mostQuantum
+
+unfoldable pub planOk : Plan → Bool
+planOk p =
+    inRange leastLines (p .lines) mostLines && inRange leastMax (p .max) mostMax && inRange leastInterval (p .interval) mostInterval
+    && allBelow (quantumOk p) (p .lines)
+
+-- the plan with zeros from line N on
+abbrev pub trimmed : Plan → Plan
+trimmed p = record {
+  lines = p .lines;
+  max = p .max;
+  interval = p .interval;
+  quanta = take (p .lines) (p .quanta) ++ replicate (mostLines - p .lines) 0;
+}
+
+-- S bytes a line
+unfoldable pub storeOk : Plan → ℕ → Bool
+storeOk p size = inRange (p .max + itemHead) size mostStore

@@ -1,0 +1,227 @@
+// The plan that both ends agree on: its limits, the check of it, its record, and what a packet is charged on a line.
+// The definitions are in specs/: Limits, Plan and Record.
+use numbers::Reading;
+use numbers::Written;
+ghost use mathlib.Core.Path.{_≡_};
+ghost use Prim.Native.Nat.{_≤_};
+ghost use mathlib.Core.List.{_∷_};
+ghost use Rattle.numbers.specs.Checks.{allBelow};
+ghost use Rattle.numbers.specs.Coding.{readingOf};
+ghost use Rattle.plan.specs.Limits.{leastLines, mostLines, leastMax, mostMax, mostQuantum, leastInterval, mostInterval, itemHead, mostStore};
+ghost use Rattle.plan.specs.Plan.{quantumOk, planOk, storeOk, chargeOf};
+ghost use Rattle.plan.specs.Record.{within, refusedPlan, quantaRead, planRead, planWritten};
+
+// Lines are numbered from 0 in the order of the quanta, never by name. Entries for lines from `lines` on are ignored and kept.
+#[repr(C)]
+pub struct Plan {
+    pub lines: u32,
+    pub max: u32,
+    pub interval: u32,
+    pub quanta: [u32; Plan::MOST_LINES],
+}
+
+// What reading a plan record answers: 0 and the plan, or the number of the refusal and an all-zero plan.
+pub struct PlanRead {
+    pub number: u32,
+    pub plan: Plan,
+}
+
+impl Plan {
+    pub const LEAST_LINES: u32 = 1;
+
+    pub const MOST_LINES: usize = 16;
+
+    // The largest packet, in bytes.
+    pub const LEAST_MAX: u32 = 64;
+
+    pub const MOST_MAX: u32 = 9_000;
+
+    // A line's quantum is at least the plan's largest packet.
+    pub const MOST_QUANTUM: u32 = 1_048_576;
+
+    // Rounds from one set of markers to the next.
+    pub const LEAST_INTERVAL: u32 = 1;
+
+    pub const MOST_INTERVAL: u32 = 65_535;
+
+    // A stored item's kind and length stand in front of its bytes, so a line's store has this and the largest packet at least.
+    pub const ITEM_HEAD: u32 = 3;
+
+    pub const MOST_STORE: u32 = 65_536;
+}
+
+// The numbers of a plan's record: three, and a quantum for each line.
+const ROW: usize = Plan::MOST_LINES + 3;
+
+// The plan's limits are the definitions' numbers.
+fn limits()
+    ensures { λ _. do ⌜ (← ⟦Plan::LEAST_LINES⟧ .entry) ≡ leastLines ⌝ }
+    ensures { λ _. do ⌜ (← ⟦Plan::MOST_LINES⟧ .entry) ≡ mostLines ⌝ }
+    ensures { λ _. do ⌜ (← ⟦Plan::LEAST_MAX⟧ .entry) ≡ leastMax ⌝ }
+    ensures { λ _. do ⌜ (← ⟦Plan::MOST_MAX⟧ .entry) ≡ mostMax ⌝ }
+    ensures { λ _. do ⌜ (← ⟦Plan::MOST_QUANTUM⟧ .entry) ≡ mostQuantum ⌝ }
+    ensures { λ _. do ⌜ (← ⟦Plan::LEAST_INTERVAL⟧ .entry) ≡ leastInterval ⌝ }
+    ensures { λ _. do ⌜ (← ⟦Plan::MOST_INTERVAL⟧ .entry) ≡ mostInterval ⌝ }
+    ensures { λ _. do ⌜ (← ⟦Plan::ITEM_HEAD⟧ .entry) ≡ itemHead ⌝ }
+    ensures { λ _. do ⌜ (← ⟦Plan::MOST_STORE⟧ .entry) ≡ mostStore ⌝ }
+{}
+
+// No early way out of the loop: a plan is checked at every call, and nearly always good.
+fn quanta_ok(p: Plan) -> bool
+    requires { ⌜ p .lines ≤ mostLines ⌝ }
+    ensures { λ r. ⌜ r ≡ allBelow (quantumOk p) (p .lines) ⌝ }
+{
+    let quanta = p.quanta;
+    let n = p.lines as usize;
+    let mut good = true;
+    let mut i: usize = 0;
+    while i < n {
+        let fits = numbers::in_range(p.max, quanta[i], Plan::MOST_QUANTUM);
+        good = good & fits;
+        i += 1;
+    }
+    good
+}
+
+// Whether a plan keeps to the table of ranges.
+pub fn plan_ok(p: Plan) -> bool
+    ensures { λ r. ⌜ r ≡ planOk p ⌝ }
+{
+    if !numbers::in_range(Plan::LEAST_LINES, p.lines, Plan::MOST_LINES as u32) {
+        return false;
+    }
+    if !numbers::in_range(Plan::LEAST_MAX, p.max, Plan::MOST_MAX) {
+        return false;
+    }
+    if !numbers::in_range(Plan::LEAST_INTERVAL, p.interval, Plan::MOST_INTERVAL) {
+        return false;
+    }
+    quanta_ok(p)
+}
+
+// Whether `size` bytes a line keep to the table of ranges for a plan.
+pub fn store_ok(p: Plan, size: u32) -> bool
+    ensures { λ r. ⌜ r ≡ storeOk p size ⌝ }
+{
+    let max = p.max;
+    if Plan::MOST_STORE < max {
+        return false;
+    }
+    numbers::in_range(max + Plan::ITEM_HEAD, size, Plan::MOST_STORE)
+}
+
+// What a packet of that length is charged on a line.
+pub fn charge(p: Plan, line: u32, length: u32) -> u32
+    ensures { λ r. ⌜ r ≡ chargeOf p line length ⌝ }
+{
+    length
+}
+
+fn refused() -> PlanRead
+    ensures { λ r. ⌜ r ≡ refusedPlan ⌝ }
+{
+    PlanRead {
+        number: 1,
+        plan: Plan {
+            lines: 0,
+            max: 0,
+            interval: 0,
+            quanta: [0; Plan::MOST_LINES],
+        },
+    }
+}
+
+// Reads a number from low to high; another one is nothing.
+fn read_within(s: &[u8], low: u32, high: u32) -> Reading
+    ensures { λ r. ⌜ r ≡ within low high (readingOf 32 (now (s .entry))) ⌝ }
+{
+    let Reading::Number(v, n) = numbers::read_number(s) else {
+        return Reading::Nothing;
+    };
+    if numbers::in_range(low, v, high) {
+        return Reading::Number(v, n);
+    }
+    Reading::Nothing
+}
+
+// Reads the quanta of p's lines, which are all of s.
+fn read_quanta(s: &[u8], p: Plan) -> PlanRead
+    requires { ⌜ p .lines ≤ mostLines ⌝ }
+    ensures { λ r. ⌜ r ≡ quantaRead (p .lines) 0 p (now (s .entry)) ⌝ }
+{
+    let mut plan = p;
+    let n = p.lines as usize;
+    let mut at: usize = 0;
+    let mut i: usize = 0;
+    while i < n {
+        let Reading::Number(quantum, length) = read_within(&s[at..], p.max, Plan::MOST_QUANTUM)
+        else {
+            return refused();
+        };
+        plan.quanta[i] = quantum;
+        at += length;
+        i += 1;
+    }
+    if at < s.len() {
+        return refused();
+    }
+    PlanRead { number: 0, plan }
+}
+
+// Reads the plan record that s is. Refused: 1.
+pub fn read_plan(s: &[u8]) -> PlanRead
+    ensures { λ r. ⌜ r ≡ planRead (now (s .entry)) ⌝ }
+{
+    let Reading::Number(lines, a) = read_within(s, Plan::LEAST_LINES, Plan::MOST_LINES as u32)
+    else {
+        return refused();
+    };
+    let after_lines = &s[a..];
+    let Reading::Number(max, b) = read_within(after_lines, Plan::LEAST_MAX, Plan::MOST_MAX) else {
+        return refused();
+    };
+    let after_max = &after_lines[b..];
+    let Reading::Number(interval, c) = read_within(
+        after_max,
+        Plan::LEAST_INTERVAL,
+        Plan::MOST_INTERVAL,
+    ) else {
+        return refused();
+    };
+    let p = Plan {
+        lines,
+        max,
+        interval,
+        quanta: [0; Plan::MOST_LINES],
+    };
+    read_quanta(&after_max[c..], p)
+}
+
+// All of a plan's numbers in the record's order, the entries from `lines` on among them.
+fn whole_row(lines: u32, max: u32, interval: u32, quanta: [u32; Plan::MOST_LINES]) -> [u32; ROW]
+    ensures { λ r. ⌜ r ≡ lines ∷ max ∷ interval ∷ quanta ⌝ }
+{
+    let mut row = [0u32; ROW];
+    row[0] = lines;
+    row[1] = max;
+    row[2] = interval;
+    let mut i: usize = 0;
+    while i < Plan::MOST_LINES {
+        row[i + 3] = quanta[i];
+        i += 1;
+    }
+    row
+}
+
+// Writes p's record to the front of out. Refused: 1, 8.
+pub fn write_plan(p: Plan, out: &mut [u8]) -> Written
+    ensures { λ r. ⌜ (r ≡ planWritten p (now (out .entry)) .answer) × (now (out .exit) ≡ planWritten p (now (out .entry)) .out) ⌝ }
+{
+    if !plan_ok(p) {
+        return Written::Refused(1);
+    }
+    let quanta = p.quanta;
+    let row = whole_row(p.lines, p.max, p.interval, quanta);
+    let n = p.lines as usize + 3;
+    numbers::write_row(&row[..n], out)
+}
