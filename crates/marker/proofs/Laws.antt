@@ -1,0 +1,179 @@
+-- The laws of the marker record. Callers cite these and not the definitions' text. Assumes nothing.
+use mathlib.Core.Path.{_≡_, refl, ap, sym, _∙_}
+use Prim.Native.Nat.{ℕ, zero, suc, _^_, _≤_, _<_}
+use native.Mathlib.Omega.{arith}
+use mathlib.Core.Bool.{Bool, true, false, cond}
+use mathlib.Core.List.{List, [], _∷_, _++_}
+use lib.ListN.{length, drop, getD}
+use lib.Dec.{leb, eqb}
+use borrow.Author.Tests.{lt-ltb, le-ltb, eq-eqb, ne-eqb, eqb-true}
+use Rattle.numbers.specs.declared.Reading.the-variants.{Number, Nothing}
+use Rattle.numbers.specs.declared.Written.the-variants as w
+use Rattle.numbers.specs.Checks.{check}
+use Rattle.numbers.specs.Coding.{Bytes, readingOf, coded, rowBytes}
+use Rattle.numbers.specs.Writing.{written, outcome}
+use Rattle.numbers.proofs.Laws.{onward-written, onward-number, split, fits, bytes-drop, row-size, answered-length, answered-number}
+use Rattle.plan.specs.Limits.{mostLines}
+use Rattle.marker.specs.declared.Marker.{Marker}
+use Rattle.marker.specs.declared.MarkerRead.{MarkerRead}
+use Rattle.marker.specs.declared.MarkerRead.the-variants.{Whole, Refused}
+use Rattle.marker.specs.Marker.{markerOf, field, recordRead, markerBytes, counterOk, lineOk, markerChecked, markerWritten, numberOf}
+
+-- a marker that is read is none that is refused
+pub whole-not-refused : {k : ℕ} {m : Marker} → Refused k ≡ Whole m → ⊥
+whole-not-refused e = let z : _≡_ {A = ℕ} 0 1 = cc in omega arith
+
+-- ---- the record, number by number
+
+module _ (s : List ℕ) where
+  pub line-refused : readingOf 32 s ≡ Nothing → Refused 5 ≡ recordRead s
+  unfolding recordRead
+  line-refused e = simp e
+
+  module _ (line a : ℕ) (first : readingOf 32 s ≡ Number line a) where
+    pub round-refused : readingOf 32 (drop a s) ≡ Nothing → Refused 5 ≡ recordRead s
+    unfolding recordRead
+    round-refused e = simp (first, e)
+
+    module _ (round b : ℕ) (second : readingOf 32 (drop a s) ≡ Number round b) where
+      pub counter-refused : readingOf 32 (drop b (drop a s)) ≡ Nothing → Refused 5 ≡ recordRead s
+      unfolding recordRead
+      counter-refused e = simp (first, second, e)
+
+      module _ (counter c : ℕ) (third : readingOf 32 (drop b (drop a s)) ≡ Number counter c) where
+        pub bytes-over : 0 < length (drop c (drop b (drop a s))) → Refused 5 ≡ recordRead s
+        unfolding recordRead
+        bytes-over h = simp (first, second, third, ne-eqb (length (drop c (drop b (drop a s)))) 0 (omega arith))
+
+        pub three-numbers : length (drop c (drop b (drop a s))) ≤ 0 → Whole (markerOf line round counter) ≡ recordRead s
+        unfolding recordRead
+        three-numbers h = simp (first, second, third, eq-eqb (length (drop c (drop b (drop a s)))) 0 (omega arith))
+
+-- ---- the record as a whole
+
+-- three numbers that are written are read
+pub record-written : (m : Marker) → m .line < 2 ^ 32 → m .round < 2 ^ 32 → m .counter < 2 ^ 32 → recordRead (markerBytes m) ≡ Whole m
+unfolding recordRead rowBytes
+record-written m l r c = onward-written (m .line) _ _ _ l ∙ onward-written (m .round) _ _ _ r ∙ onward-written (m .counter) _ _ _ c
+
+one-number : (s : List ℕ) (next : ℕ → List ℕ → MarkerRead) (m : Marker) → Bytes s → field s next ≡ Whole m
+    → (v : ℕ) × (t : List ℕ) × (s ≡ coded 32 v ++ t) × (v < 2 ^ 32) × (Bytes t) × (next v t ≡ Whole m)
+one-number s next m bytes e =
+    let n = onward-number (λ (r : MarkerRead). r ≡ Whole m) (readingOf 32 s) s (Refused 5) next whole-not-refused e in
+    (n .0, drop (n .1) s, split 32 s (n .2) bytes, fits 32 s (n .2), bytes-drop (n .1) s bytes, n .3)
+
+-- and what is read was written
+pub record-read : (s : List ℕ) (m : Marker) → Bytes s → recordRead s ≡ Whole m
+    → (s ≡ markerBytes m) × (m .line < 2 ^ 32) × (m .round < 2 ^ 32) × (m .counter < 2 ^ 32)
+unfolding recordRead rowBytes
+record-read s m bytes e =
+    let l = one-number s _ m bytes e in
+    let r = one-number (l .1) _ m (l .4) (l .5) in
+    let c = one-number (r .1) _ m (r .4) (r .5) in
+    let d = end (c .1) (markerOf (l .0) (r .0) (c .0)) (c .5) in
+    let is : markerOf (l .0) (r .0) (c .0) ≡ m = d .1 in
+    let whole : s ≡ markerBytes (markerOf (l .0) (r .0) (c .0)) =
+    l .2 ∙ ap (λ (t : List ℕ). coded 32 (l .0) ++ t) (r .2 ∙ ap (λ (t : List ℕ). coded 32 (r .0) ++ t) (c .2 ∙ ap (λ (t : List ℕ). coded 32 (c .0) ++ t) (d .0))) in
+    (whole ∙ ap markerBytes is, omega (arith, ap (λ (k : Marker). k .line) is, l .3), omega (arith, ap (λ (k : Marker). k .round) is, r .3), omega (arith, ap (λ (k : Marker). k .counter) is, c .3))
+  where
+    none : (s : List ℕ) → length s ≡ 0 → s ≡ []
+    none [] h = refl
+    none (x ∷ s) h = absurd (omega arith)
+
+    end : (over : List ℕ) (n : Marker) → cond (eqb (length over) 0) (Whole n) (Refused 5) ≡ Whole m → (over ≡ []) × (n ≡ m)
+    end over n e = go (eqb (length over) 0) refl e
+      where
+        go : (t : Bool) → eqb (length over) 0 ≡ t → cond t (Whole n) (Refused 5) ≡ Whole m → (over ≡ []) × (n ≡ m)
+        go true h e = (none over (eqb-true (length over) 0 h), cc)
+        go false h e = absurd (whole-not-refused e)
+
+-- number 0 is a whole marker
+pub record-accepted : (s : List ℕ) → numberOf (recordRead s) ≡ 0 → (m : Marker) × (recordRead s ≡ Whole m)
+unfolding recordRead
+record-accepted s e =
+    let l = onward-number Accepted (readingOf 32 s) s (Refused 5) _ five e in
+    let s₁ = drop (l .1) s in
+    let r = onward-number Accepted (readingOf 32 s₁) s₁ (Refused 5) _ five (l .3) in
+    let s₂ = drop (r .1) s₁ in
+    let c = onward-number Accepted (readingOf 32 s₂) s₂ (Refused 5) _ five (r .3) in
+    let m = markerOf (l .0) (r .0) (c .0) in
+    (m, sym (three-numbers s (l .0) (l .1) (l .2) (r .0) (r .1) (r .2) (c .0) (c .1) (c .2) (end (drop (c .1) s₂) m (c .3))))
+  where
+    Accepted : MarkerRead → Type 0
+    Accepted r = numberOf r ≡ 0
+
+    five : Accepted (Refused 5) → ⊥
+    five e = omega arith
+
+    end : (over : List ℕ) (m : Marker) → numberOf (cond (eqb (length over) 0) (Whole m) (Refused 5)) ≡ 0 → length over ≤ 0
+    end over m e = go (eqb (length over) 0) refl e
+      where
+        go : (t : Bool) → eqb (length over) 0 ≡ t → numberOf (cond t (Whole m) (Refused 5)) ≡ 0 → length over ≤ 0
+        go true h e = omega (arith, eqb-true (length over) 0 h)
+        go false h e = absurd (omega arith)
+
+-- ---- the standalone checks
+
+module _ (m : Marker) where
+  pub counter-bad : counterOk m ≡ false → Refused 5 ≡ markerChecked m
+  unfolding markerChecked
+  counter-bad e = simp e
+
+  pub line-bad : counterOk m ≡ true → mostLines ≤ m .line → Refused 3 ≡ markerChecked m
+  unfolding markerChecked
+  line-bad e h = simp (e, le-ltb (m .line) mostLines h)
+
+  pub both-good : counterOk m ≡ true → m .line < mostLines → Whole m ≡ markerChecked m
+  unfolding markerChecked
+  both-good e h = simp (e, lt-ltb (m .line) mostLines h)
+
+-- what the two checks make of a marker
+abbrev decided : Marker → Bool → Bool → MarkerRead
+decided m counter line = cond (eqb (cond counter (cond line 0 3) 5) 0) (Whole m) (Refused (cond counter (cond line 0 3) 5))
+
+-- a marker that passes them comes back, and is in range
+pub passed : (m : Marker) → numberOf (markerChecked m) ≡ 0 → (markerChecked m ≡ Whole m) × (counterOk m ≡ true) × (lineOk m ≡ true)
+unfolding markerChecked
+passed m e = go (counterOk m) refl (lineOk m) refl e
+  where
+    go : (a : Bool) → counterOk m ≡ a → (b : Bool) → lineOk m ≡ b → numberOf (decided m a b) ≡ 0
+        → (decided m (counterOk m) (lineOk m) ≡ Whole m) × (counterOk m ≡ true) × (lineOk m ≡ true)
+    go true p true q e = (simp (p, q), p, q)
+    go true p false q e = absurd (omega arith)
+    go false p b q e = absurd (omega arith)
+
+module _ (m : Marker) (out : List ℕ) where
+  pub line-not-written : mostLines ≤ m .line → (w.Refused 3 ≡ markerWritten m out .answer) × (out ≡ markerWritten m out .out)
+  unfolding markerWritten outcome
+  line-not-written h = (simp (le-ltb (m .line) mostLines h), simp (le-ltb (m .line) mostLines h))
+
+  module _ (line : m .line < mostLines) where
+    pub counter-not-written : counterOk m ≡ false → (w.Refused 5 ≡ markerWritten m out .answer) × (out ≡ markerWritten m out .out)
+    unfolding markerWritten outcome
+    counter-not-written e = (simp (lt-ltb (m .line) mostLines line, e), simp (lt-ltb (m .line) mostLines line, e))
+
+    pub as-written : counterOk m ≡ true → written (markerBytes m) out ≡ markerWritten m out
+    unfolding markerWritten
+    as-written e = simp (lt-ltb (m .line) mostLines line, e)
+
+  -- an answer is a small number: at most fifteen bytes, or one of 3, 5 and 8
+  pub length-small : m .line < 2 ^ 32 → m .round < 2 ^ 32 → m .counter < 2 ^ 32 → (n : ℕ) → markerWritten m out .answer ≡ w.Length n → n ≤ 15
+  unfolding markerWritten
+  length-small l r c n e =
+      omega (arith, answered-length _ (markerBytes m) out n e, row-size (m .line ∷ m .round ∷ m .counter ∷ []) all)
+    where
+      all : (i : ℕ) → getD (m .line ∷ m .round ∷ m .counter ∷ []) i 0 < 2 ^ 32
+      all zero = l
+      all (suc zero) = r
+      all (suc (suc zero)) = c
+      all (suc (suc (suc i))) = omega arith
+
+  pub number-small : (k : ℕ) → markerWritten m out .answer ≡ w.Refused k → k ≤ 8
+  unfolding markerWritten
+  number-small k e = omega (arith, answered-number _ (markerBytes m) out k e, go (lineOk m) (counterOk m) (leb (length (markerBytes m)) (length out)))
+    where
+      go : (a b c : Bool) → check a 3 (check b 5 (check c 8 0)) ≤ 8
+      go true true true = omega arith
+      go true true false = omega arith
+      go true false c = omega arith
+      go false b c = omega arith
