@@ -1,0 +1,124 @@
+/* Calls what include/stripes.h declares and compares every answer, and every byte of the output, with what it must be.
+ * Each number that the two functions can answer is provoked. Prints the session's figures, then the count of checks;
+ * exits with 1 where one of them does not hold. */
+#include "stripes.h"
+
+#include <stdio.h>
+#include <string.h>
+
+enum { ROOM = 16, UNTOUCHED = 0xEE };
+
+static unsigned checks, failures;
+
+static void check(int holds, const char *what)
+{
+    checks++;
+    if (!holds) {
+        failures++;
+        printf("FAILED: %s\n", what);
+    }
+}
+
+static void print_bytes(const uint8_t *bytes, size_t n)
+{
+    for (size_t i = 0; i < n; i++)
+        printf(" %02X", bytes[i]);
+    printf("\n");
+}
+
+/* One call of the writer on a buffer of `room` bytes: its answer, and what stands in the whole buffer afterwards. */
+static void marker(uint32_t line, uint32_t round, uint32_t counter, size_t room, uint32_t answer, const uint8_t *bytes, const char *what)
+{
+    uint8_t out[ROOM], expected[ROOM];
+
+    memset(out, UNTOUCHED, sizeof out);
+    memset(expected, UNTOUCHED, sizeof expected);
+    if (answer < STRIPES_REFUSED)
+        memcpy(expected, bytes, answer);
+    check(stripes_write_marker(line, round, counter, out, room) == answer, what);
+    check(memcmp(out, expected, sizeof out) == 0, what);
+}
+
+static void refused(uint32_t line, uint32_t round, uint32_t counter, size_t room, uint32_t number, const char *what)
+{
+    marker(line, round, counter, room, STRIPES_REFUSED + number, NULL, what);
+}
+
+static void plan(const uint8_t *record, size_t n, uint32_t answer, const char *what)
+{
+    check(stripes_check_plan(record, n) == answer, what);
+}
+
+#define PLAN(answer, what, ...)                             \
+    do {                                                    \
+        static const uint8_t record[] = { __VA_ARGS__ };    \
+        plan(record, sizeof record, answer, what);          \
+    } while (0)
+
+static void markers(void)
+{
+    static const uint8_t line_0[] = { 0x00, 0x02, 0xA0, 0x06 };
+    static const uint8_t line_1[] = { 0x01, 0x02, 0xDE, 0x02 };
+    static const uint8_t longest[] = { 0x0F, 0xFF, 0xFF, 0xFF, 0xFF, 0x0F, 0x80, 0x80, 0x40 };
+    static const uint8_t shortest[] = { 0x00, 0x00, 0x01 };
+
+    marker(0, 2, 800, ROOM, 4, line_0, "the session's marker on line 0");
+    marker(1, 2, 350, ROOM, 4, line_1, "the session's marker on line 1");
+    marker(1, 2, 350, 4, 4, line_1, "a marker that just fits");
+    marker(15, UINT32_MAX, 1048576, ROOM, STRIPES_MARKER_MOST, longest, "the longest marker");
+    marker(0, 0, 1, ROOM, 3, shortest, "the shortest marker");
+
+    refused(16, 2, 800, ROOM, 3, "line 16");
+    refused(UINT32_MAX, 2, 800, ROOM, 3, "the largest line");
+    refused(0, 2, 0, ROOM, 5, "counter 0");
+    refused(0, 2, 1048577, ROOM, 5, "counter above every quantum");
+    refused(0, 2, 800, 3, 8, "one byte too little room");
+    refused(0, 2, 800, 0, 8, "no room");
+    refused(16, 2, 0, 0, 3, "line, counter and room wrong: 3 first");
+    refused(0, 2, 0, 0, 5, "counter and room wrong: 5 before 8");
+    check(stripes_write_marker(0, 2, 800, NULL, 0) == STRIPES_REFUSED + 8, "NULL of length 0");
+}
+
+static void plans(void)
+{
+    static const uint8_t session[] = { 0x02, 0xF4, 0x03, 0x01, 0xE8, 0x07, 0xF4, 0x03 };
+
+    plan(session, sizeof session, 0, "the session's plan");
+    for (size_t n = 0; n < sizeof session; n++)
+        plan(session, n, 1, "the session's plan, cut");
+    plan(NULL, 0, 1, "NULL of length 0");
+    PLAN(1, "a byte over", 0x02, 0xF4, 0x03, 0x01, 0xE8, 0x07, 0xF4, 0x03, 0x00);
+
+    PLAN(0, "the least plan", 0x01, 0x40, 0x01, 0x40);
+    PLAN(0, "the largest numbers", 0x01, 0xA8, 0x46, 0xFF, 0xFF, 0x03, 0x80, 0x80, 0x40);
+    PLAN(0, "sixteen lines", 0x10, 0x40, 0x01, 0x40, 0x40, 0x40, 0x40, 0x40, 0x40, 0x40, 0x40, 0x40, 0x40, 0x40, 0x40, 0x40, 0x40, 0x40, 0x40);
+    PLAN(1, "no line", 0x00, 0x40, 0x01);
+    PLAN(1, "seventeen lines", 0x11, 0x40, 0x01, 0x40, 0x40, 0x40, 0x40, 0x40, 0x40, 0x40, 0x40, 0x40, 0x40, 0x40, 0x40, 0x40, 0x40, 0x40, 0x40, 0x40);
+    PLAN(1, "Max 63", 0x01, 0x3F, 0x01, 0x40);
+    PLAN(1, "Max 9001", 0x01, 0xA9, 0x46, 0x01, 0xA9, 0x46);
+    PLAN(1, "K 0", 0x01, 0x40, 0x00, 0x40);
+    PLAN(1, "K 65536", 0x01, 0x40, 0x80, 0x80, 0x04, 0x40);
+    PLAN(1, "a quantum below Max", 0x01, 0x41, 0x01, 0x40);
+    PLAN(1, "a quantum of 1048577", 0x01, 0x40, 0x01, 0x81, 0x80, 0x40);
+    PLAN(1, "a number not in its shortest form", 0x81, 0x00, 0x40, 0x01, 0x40);
+    PLAN(1, "a number of 2^32", 0x01, 0x40, 0x01, 0x80, 0x80, 0x80, 0x80, 0x10);
+}
+
+int main(void)
+{
+    static const uint8_t session[] = { 0x02, 0xF4, 0x03, 0x01, 0xE8, 0x07, 0xF4, 0x03 };
+    uint8_t out[STRIPES_MARKER_MOST];
+
+    printf("plan record:");
+    print_bytes(session, sizeof session);
+    printf("plan check: %u\n", (unsigned)stripes_check_plan(session, sizeof session));
+    printf("marker on line 0 at round 2, counter 800:");
+    print_bytes(out, stripes_write_marker(0, 2, 800, out, sizeof out));
+    printf("marker on line 1 at round 2, counter 350:");
+    print_bytes(out, stripes_write_marker(1, 2, 350, out, sizeof out));
+
+    markers();
+    plans();
+    printf("C driver: %u checks, %u failed\n", checks, failures);
+    return failures != 0;
+}
