@@ -1,0 +1,14 @@
+//! The proved functions, as include/stripes.h declares them. A slice is a pointer and a length.
+
+extern "C" {
+    fn stripes_write_marker(line: u32, round: u32, counter: u32, out: *mut u8, out_len: usize) -> u32;
+    fn stripes_check_plan(record: *const u8, record_len: usize) -> u32;
+}
+
+pub fn write_marker(line: u32, round: u32, counter: u32, out: &mut [u8]) -> u32 {
+    unsafe { stripes_write_marker(line, round, counter, out.as_mut_ptr(), out.len()) }
+}
+
+pub fn check_plan(record: &[u8]) -> u32 {
+    unsafe { stripes_check_plan(record.as_ptr(), record.len()) }
+}
