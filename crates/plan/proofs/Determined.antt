@@ -6,6 +6,10 @@ use Rattle.plan.proofs.store_ok.Reads as store-ok
 use Rattle.plan.proofs.store_ok.Kinds as store-ok-kinds
 use Rattle.plan.proofs.charge.Reads as charge
 use Rattle.plan.proofs.charge.Kinds as charge-kinds
+use Rattle.plan.proofs.first_entries.Reads as first-entries
+use Rattle.plan.proofs.first_entries.Kinds as first-entries-kinds
+use Rattle.plan.proofs.trim.Reads as trim
+use Rattle.plan.proofs.trim.Kinds as trim-kinds
 use Rattle.plan.proofs.read_plan.Reads as read-plan
 use Rattle.plan.proofs.read_plan.Kinds as read-plan-kinds
 use Rattle.plan.proofs.write_plan.Reads as write-plan
@@ -19,6 +23,12 @@ store-ok-tight κs a z z′ e e′ p q = only p q
 
 pub charge-tight : OneAnswer 0 charge-kinds.ps charge-kinds.r charge.Post
 charge-tight κs a z z′ e e′ p q = only p q
+
+pub first-entries-tight : OneAnswer 0 first-entries-kinds.ps first-entries-kinds.r first-entries.Post
+first-entries-tight κs a z z′ e e′ p q = only p q
+
+pub trim-tight : OneAnswer 0 trim-kinds.ps trim-kinds.r trim.Post
+trim-tight κs a z z′ e e′ p q = only p q
 
 pub read-plan-tight : OneAnswer 1 read-plan-kinds.ps read-plan-kinds.r read-plan.Post
 read-plan-tight κs a z z′ e e′ p q = only p q

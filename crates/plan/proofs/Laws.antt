@@ -6,7 +6,8 @@ use native.Mathlib.Numerals.{add-one}
 use native.Mathlib.Omega.{arith}
 use mathlib.Core.Bool.{Bool, true, false, cond}
 use mathlib.Core.List.{List}
-use lib.ListN.{length, drop}
+use lib.ListN.{length, drop, take, getD, replicate, length-append, length-replicate, List·getD-append}
+use lib.Seq.{length-take-le, getD-take}
 use borrow.Author.Tests.{eq-eqb, ne-eqb}
 use Rattle.numbers.specs.declared.Reading.{Reading}
 use Rattle.numbers.specs.declared.Reading.the-variants.{Number, Nothing}
@@ -14,11 +15,11 @@ use Rattle.numbers.specs.declared.Written.the-variants.{Refused}
 use Rattle.numbers.specs.Checks.{inRange, allBelow}
 use Rattle.numbers.specs.Coding.{readingOf}
 use Rattle.numbers.specs.Writing.{written, outcome}
-use Rattle.numbers.proofs.Checks.{both, from-range, all-at}
+use Rattle.numbers.proofs.Checks.{both, in-range as is-in-range, from-range, all-at, all}
 use Rattle.numbers.proofs.Laws.{never}
 use Rattle.plan.specs.declared.Plan.{Plan}
 use Rattle.plan.specs.Limits.{leastLines, mostLines, leastMax, mostMax, mostQuantum, leastInterval, mostInterval}
-use Rattle.plan.specs.Plan.{quantum, quantumOk, planOk, chargeOf}
+use Rattle.plan.specs.Plan.{quantum, quantumOk, planOk, chargeOf, firstEntries, trimmed}
 use Rattle.plan.specs.Record.{bare, readPlan, refusedPlan, within, withQuantum, quantaRead, planRead, planBytes, planWritten}
 
 -- ---- a plan in range
@@ -171,3 +172,31 @@ module _ (p : Plan) (out : List ℕ) where
   pub as-written : planOk p ≡ true → written (planBytes p) out ≡ planWritten p out
   unfolding planWritten
   as-written e = simp e
+
+-- ---- entries from line N on do not matter
+
+pub first-entry : (n : ℕ) (l : List ℕ) (i : ℕ) → i < n → n ≤ length l → getD (firstEntries n l) i 0 ≡ getD l i 0
+first-entry n l i h fits =
+    let size : length (take n l) ≡ n = length-take-le n l fits in
+    List·getD-append (take n l) (replicate (mostLines - n) 0) 0 i (omega arith) ∙ getD-take n l i 0 h
+
+pub entries-length : (n : ℕ) (l : List ℕ) → n ≤ mostLines → length l ≡ mostLines → length (firstEntries n l) ≡ mostLines
+entries-length n l few sixteen =
+    length-append (take n l) (replicate (mostLines - n) 0)
+    ∙ omega (arith, length-take-le n l (omega arith), length-replicate {A = ℕ} (mostLines - n) 0)
+
+pub trimmed-quantum : (p : Plan) → planOk p ≡ true → length (p .quanta) ≡ mostLines → (i : ℕ) → i < p .lines → quantum (trimmed p) i ≡ quantum p i
+trimmed-quantum p good sixteen i h = first-entry (p .lines) (p .quanta) i h (omega (arith, in-range p good .few-lines))
+
+-- the plan that opening keeps is in range too
+pub trimmed-ok : (p : Plan) → planOk p ≡ true → length (p .quanta) ≡ mostLines → planOk (trimmed p) ≡ true
+unfolding planOk
+trimmed-ok p good sixteen =
+    let r = in-range p good in
+    simp (
+      is-in-range leastLines (p .lines) mostLines (r .some-lines) (r .few-lines),
+      is-in-range leastMax (p .max) mostMax (r .max-least) (r .max-most),
+      is-in-range leastInterval (p .interval) mostInterval (r .interval-least) (r .interval-most),
+      all (quantumOk (trimmed p)) (p .lines)
+          (λ i h. rw (trimmed-quantum p good sixteen i h) (is-in-range (p .max) (quantum p i) mostQuantum (r .quantum-least i h) (r .quantum-most i h))),
+    )

@@ -1,7 +1,7 @@
 -- When a plan keeps to the table of ranges, and what a packet is charged.
 use Prim.Native.Nat.{ℕ, _+_, _-_}
 use mathlib.Core.Bool.{Bool, _&&_}
-use mathlib.Core.List.{_++_}
+use mathlib.Core.List.{List, _++_}
 use lib.ListN.{take, getD, replicate}
 use Rattle.numbers.specs.Checks.{inRange, allBelow}
 use Rattle.plan.specs.declared.Plan.{Plan}
@@ -23,14 +23,13 @@ planOk p =
     inRange leastLines (p .lines) mostLines && inRange leastMax (p .max) mostMax && inRange leastInterval (p .interval) mostInterval
     && allBelow (quantumOk p) (p .lines)
 
+-- the first n of sixteen entries, and zeros from there on
+abbrev pub firstEntries : ℕ → List ℕ → List ℕ
+firstEntries n entries = take n entries ++ replicate (mostLines - n) 0
+
 -- the plan with zeros from line N on
 abbrev pub trimmed : Plan → Plan
-trimmed p = record {
-  lines = p .lines;
-  max = p .max;
-  interval = p .interval;
-  quanta = take (p .lines) (p .quanta) ++ replicate (mostLines - p .lines) 0;
-}
+trimmed p = record { lines = p .lines; max = p .max; interval = p .interval; quanta = firstEntries (p .lines) (p .quanta) }
 
 -- S bytes a line
 unfoldable pub storeOk : Plan → ℕ → Bool

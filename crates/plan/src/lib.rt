@@ -8,7 +8,7 @@ ghost use mathlib.Core.List.{_∷_};
 ghost use Rattle.numbers.specs.Checks.{allBelow};
 ghost use Rattle.numbers.specs.Coding.{readingOf};
 ghost use Rattle.plan.specs.Limits.{leastLines, mostLines, leastMax, mostMax, mostQuantum, leastInterval, mostInterval, itemHead, mostStore};
-ghost use Rattle.plan.specs.Plan.{quantumOk, planOk, storeOk, chargeOf};
+ghost use Rattle.plan.specs.Plan.{quantumOk, planOk, storeOk, chargeOf, firstEntries, trimmed};
 ghost use Rattle.plan.specs.Record.{within, refusedPlan, quantaRead, planRead, planWritten};
 
 // Lines are numbered from 0 in the order of the quanta, never by name. Entries for lines from `lines` on are ignored and kept.
@@ -115,6 +115,33 @@ pub fn charge(p: Plan, line: u32, length: u32) -> u32
     ensures { λ r. ⌜ r ≡ chargeOf p line length ⌝ }
 {
     length
+}
+
+// The first n of a line's entries, and zeros from there on.
+pub fn first_entries(n: usize, entries: [u32; Plan::MOST_LINES]) -> [u32; Plan::MOST_LINES]
+    ensures { λ r. ⌜ r ≡ firstEntries n entries ⌝ }
+{
+    let mut kept = entries;
+    let mut i = n;
+    while i < Plan::MOST_LINES {
+        kept[i] = 0;
+        i += 1;
+    }
+    kept
+}
+
+// The plan with zeros from line N on.
+pub fn trim(p: Plan) -> Plan
+    ensures { λ r. ⌜ r ≡ trimmed p ⌝ }
+{
+    let quanta = p.quanta;
+    let kept = first_entries(p.lines as usize, quanta);
+    Plan {
+        lines: p.lines,
+        max: p.max,
+        interval: p.interval,
+        quanta: kept,
+    }
 }
 
 fn refused() -> PlanRead
