@@ -1,0 +1,5 @@
+pub mod Laws
+pub mod Steps
+pub mod Histories
+pub mod Promises
+mod Determined

@@ -1,0 +1,123 @@
+-- The sender's calls: what each answers and leaves.
+use Prim.Native.Nat.{ℕ, suc, _+_, _-_, _%_, _≤_, _<_}
+use mathlib.Core.Bool.{Bool, _&&_, cond}
+use mathlib.Core.List.{List, [], _∷_}
+use lib.Dec.{ltb, leb, eqb}
+use lib.ListN.{getD, set, replicate}
+use Rattle.numbers.specs.Checks.{check, inRange, allBelow}
+use Rattle.numbers.specs.Writing.{Outcome, room, outcome}
+use Rattle.plan.specs.declared.Plan.{Plan}
+use Rattle.plan.specs.Limits.{mostLines, mostQuantum}
+use Rattle.plan.specs.Plan.{quantum, planOk, chargeOf, firstEntries, trimmed}
+use Rattle.plan.specs.Record.{zeros, bare}
+use Rattle.marker.specs.Marker.{markerOf, markerBytes}
+use Rattle.sender.specs.declared.Sender.{Sender}
+use Rattle.sender.specs.declared.SenderOpened.{SenderOpened}
+use Rattle.sender.specs.declared.Sent.{Sent}
+use Rattle.sender.specs.declared.Sent.the-variants.{Went, Refused}
+use Rattle.sender.specs.declared.SendResult.{SendResult}
+
+-- the table's number that a send gives, 0 for none; and the line and whether markers are due (1 or 0)
+abbrev pub numberOf : Sent → ℕ
+numberOf (Went line due) = 0
+numberOf (Refused k) = k
+
+abbrev pub valuesOf : Sent → List ℕ
+valuesOf (Went line due) = line ∷ cond due 1 0 ∷ []
+valuesOf (Refused k) = []
+
+-- entry i of sixteen
+abbrev pub at : List ℕ → ℕ → ℕ
+at entries i = getD entries i 0
+
+-- ---- a valid state
+
+abbrev pub counterOk : Sender → ℕ → Bool
+counterOk s i = inRange 1 (at (s .counters) i) (quantum (s .plan) i)
+
+unfoldable pub senderOk : Sender → Bool
+senderOk s =
+    planOk (s .plan) && ltb (s .line) (s .plan .lines) && inRange 1 (s .countdown) (s .plan .interval)
+    && allBelow (counterOk s) (s .plan .lines)
+
+-- ---- opening
+
+-- all zeros
+abbrev pub closed : Sender
+closed = record { plan = bare 0 0 0; line = 0; countdown = 0; rounds = zeros; counters = zeros }
+
+-- line 0 current, each round 1 and each counter its quantum; every entry from line N on is zero
+abbrev pub opened : Plan → Sender
+opened p = record {
+  plan = trimmed p;
+  line = 0;
+  countdown = p .interval;
+  rounds = firstEntries (p .lines) (replicate mostLines 1);
+  counters = trimmed p .quanta;
+}
+
+unfoldable pub openOf : Plan → SenderOpened
+openOf p = cond (planOk p) (record { number = 0; sender = opened p }) (record { number = 1; sender = closed })
+
+-- ---- sending: c is what the packet is charged
+
+-- the current line's counter falls by c; it is then zero or less
+abbrev pub runsOut : Sender → ℕ → Bool
+runsOut s c = leb (at (s .counters) (s .line)) c
+
+-- and line 0 is next: the round is complete
+abbrev pub completes : Sender → ℕ → Bool
+completes s c = runsOut s c && eqb (suc (s .line)) (s .plan .lines)
+
+abbrev pub isDue : Sender → ℕ → Bool
+isDue s c = completes s c && eqb (s .countdown) 1
+
+-- a counter that runs out rises by its quantum, its line's round by one, and the next line becomes current, after N - 1 line 0;
+-- at a complete round the countdown falls, and restarts where it was 1
+unfoldable pub nextSender : Sender → ℕ → Sender
+nextSender s c = record {
+  plan = s .plan;
+  line = cond (runsOut s c) (cond (ltb (suc (s .line)) (s .plan .lines)) (suc (s .line)) 0) (s .line);
+  countdown = cond (completes s c) (cond (eqb (s .countdown) 1) (s .plan .interval) (s .countdown - 1)) (s .countdown);
+  rounds = set (s .rounds) (s .line) (cond (runsOut s c) ((at (s .rounds) (s .line) + 1) % 4294967296) (at (s .rounds) (s .line)));
+  counters =
+      set (s .counters) (s .line)
+      (cond (runsOut s c) (at (s .counters) (s .line) + quantum (s .plan) (s .line) - c) (at (s .counters) (s .line) - c));
+}
+
+abbrev pub refusedWith : Sender → ℕ → SendResult
+refusedWith s number = record { answer = Refused number; next = s }
+
+abbrev pub wentWith : Sender → ℕ → SendResult
+wentWith s c = record { answer = Went (s .line) (isDue s c); next = nextSender s c }
+
+-- what the steps of a send ask: a current line, figures in range, and a charge that the counter and its quantum cover
+abbrev pub Ready : Sender → ℕ → Type 0
+Ready s c =
+    (s .line < s .plan .lines) × (s .plan .lines ≤ mostLines) × (1 ≤ s .countdown) × (at (s .counters) (s .line) ≤ quantum (s .plan) (s .line))
+    × (quantum (s .plan) (s .line) ≤ mostQuantum) × (c < at (s .counters) (s .line) + quantum (s .plan) (s .line))
+
+-- what the packet is charged on the current line
+abbrev pub chargeNow : Sender → ℕ → ℕ
+chargeNow s length = chargeOf (s .plan) (s .line) length
+
+-- 2, 4, and 10: the counter is still not positive after its quantum
+unfoldable pub sendNumber : Sender → ℕ → ℕ
+sendNumber s length =
+    check (senderOk s) 2
+    (check (inRange 1 length (s .plan .max)) 4
+    (check (ltb (chargeNow s length) (at (s .counters) (s .line) + quantum (s .plan) (s .line))) 10
+    0))
+
+unfoldable pub sendOf : Sender → ℕ → SendResult
+sendOf s length = cond (eqb (sendNumber s length) 0) (wentWith s (chargeNow s length)) (refusedWith s (sendNumber s length))
+
+-- ---- a marker from a state: 2, 3, 8
+
+-- line i's figures
+abbrev pub markerOn : Sender → ℕ → List ℕ
+markerOn s i = markerBytes (markerOf i (at (s .rounds) i) (at (s .counters) i))
+
+unfoldable pub markerFrom : Sender → ℕ → List ℕ → Outcome
+markerFrom s i out =
+    outcome (check (senderOk s) 2 (check (ltb i (s .plan .lines)) 3 (room (markerOn s i) out))) (markerOn s i) out
