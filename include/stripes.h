@@ -9,9 +9,12 @@
  * A refusal is answered by its number, and changes no byte:
  *
  *   1  the plan record breaks the table of ranges or the layout
- *   3  line not below 16
+ *   2  the sender's state is not valid: it was not opened, or something else has written to it
+ *   3  line not below the plan's lines (the standalone writer: not below 16)
+ *   4  packet length 0, or above the plan's largest packet
  *   5  counter outside 1 to 1,048,576
  *   8  output shorter than what is to be written
+ *  10  counter still not positive after its quantum
  */
 #ifndef STRIPES_H
 #define STRIPES_H
@@ -36,6 +39,39 @@ uint32_t stripes_write_marker(uint32_t line, uint32_t round, uint32_t counter, u
 /* Checks a plan record: N, Max, K, then N quanta, each a number of seven-bit groups, and no byte over.
  * Answers 0 where it is the record of a plan in range, else 1. */
 uint32_t stripes_check_plan(const uint8_t *record, size_t record_len);
+
+/* ---- The sender. The driver holds one for each bundle; only these calls write to it. */
+
+/* What both ends agree on. Entries for lines from `lines` on are ignored and kept. */
+struct stripes_plan {
+    uint32_t lines;
+    uint32_t max;
+    uint32_t interval;
+    uint32_t quanta[16];
+};
+
+struct stripes_sender {
+    struct stripes_plan plan;
+    uint32_t line;
+    uint32_t countdown;
+    uint32_t rounds[16];
+    uint32_t counters[16];
+};
+
+/* Of an answer of stripes_send below STRIPES_REFUSED: the line that the packet goes to, and whether markers are due on every line. */
+#define STRIPES_LINE(answer) ((answer) & 15u)
+#define STRIPES_DUE(answer) (((answer) & 16u) != 0)
+
+/* Opens a sender on the plan of a record. Answers 0, or 1 with the closed state, all zeros, which every other call refuses. */
+uint32_t stripes_open(struct stripes_sender *sender, const uint8_t *record, size_t record_len);
+
+/* Chooses the line of a packet of that many bytes and moves the sender on. Answers the line in the low four bits, 16 added when markers are
+ * due, or STRIPES_REFUSED plus the first of 2, 4 and 10 that applies; refused, the sender stays as it was. */
+uint32_t stripes_send(struct stripes_sender *sender, size_t length);
+
+/* Writes a marker with the line's figures to the front of out; the rest of out stays, and so does the sender. Answers the length written, or
+ * STRIPES_REFUSED plus the first of 2, 3 and 8 that applies. */
+uint32_t stripes_marker(const struct stripes_sender *sender, uint32_t line, uint8_t *out, size_t out_len);
 
 #ifdef __cplusplus
 }

@@ -8,6 +8,9 @@
 
 enum { ROOM = 16, UNTOUCHED = 0xEE };
 
+/* 2 lines, Max 500, K 1, quanta 1000 and 500 */
+static const uint8_t session_record[] = { 0x02, 0xF4, 0x03, 0x01, 0xE8, 0x07, 0xF4, 0x03 };
+
 static unsigned checks, failures;
 
 static void check(int holds, const char *what)
@@ -81,11 +84,9 @@ static void markers(void)
 
 static void plans(void)
 {
-    static const uint8_t session[] = { 0x02, 0xF4, 0x03, 0x01, 0xE8, 0x07, 0xF4, 0x03 };
-
-    plan(session, sizeof session, 0, "the session's plan");
-    for (size_t n = 0; n < sizeof session; n++)
-        plan(session, n, 1, "the session's plan, cut");
+    plan(session_record, sizeof session_record, 0, "the session's plan");
+    for (size_t n = 0; n < sizeof session_record; n++)
+        plan(session_record, n, 1, "the session's plan, cut");
     plan(NULL, 0, 1, "NULL of length 0");
     PLAN(1, "a byte over", 0x02, 0xF4, 0x03, 0x01, 0xE8, 0x07, 0xF4, 0x03, 0x00);
 
@@ -104,14 +105,80 @@ static void plans(void)
     PLAN(1, "a number of 2^32", 0x01, 0x40, 0x01, 0x80, 0x80, 0x80, 0x80, 0x10);
 }
 
+/* ---- the session on paper, through the sender */
+
+static void session(void)
+{
+    static const size_t lengths[] = { 400, 500, 300, 450, 200, 500, 500, 100 };
+    static const uint32_t lines[] = { 0, 0, 0, 1, 1, 0, 0, 1 };
+    static const uint8_t line_0[] = { 0x00, 0x02, 0xA0, 0x06 };
+    static const uint8_t line_1[] = { 0x01, 0x02, 0xDE, 0x02 };
+    struct stripes_sender s;
+    uint8_t out[STRIPES_MARKER_MOST];
+
+    memset(&s, UNTOUCHED, sizeof s);
+    check(stripes_open(&s, session_record, sizeof session_record) == 0, "the session's sender opens");
+    check(s.plan.quanta[2] == 0 && s.rounds[2] == 0 && s.counters[15] == 0, "entries from line N on are zero");
+    for (size_t i = 0; i < 8; i++) {
+        uint32_t answer = stripes_send(&s, lengths[i]);
+
+        check(answer < STRIPES_REFUSED && STRIPES_LINE(answer) == lines[i], "the session's choice");
+        check(STRIPES_DUE(answer) == (i == 4), "markers are due after packet 5 alone");
+        if (STRIPES_DUE(answer)) {
+            check(stripes_marker(&s, 0, out, sizeof out) == 4 && memcmp(out, line_0, 4) == 0, "the marker on line 0");
+            check(stripes_marker(&s, 1, out, sizeof out) == 4 && memcmp(out, line_1, 4) == 0, "the marker on line 1");
+        }
+    }
+}
+
+/* One refused call, and that it left the sender alone. */
+#define KEEPS(sender, call, number, what)                                                   \
+    do {                                                                                    \
+        struct stripes_sender before = (sender);                                            \
+        check((call) == STRIPES_REFUSED + (number), what);                                  \
+        check(memcmp(&before, &(sender), sizeof before) == 0, what);                        \
+    } while (0)
+
+static void sender_refusals(void)
+{
+    static const uint8_t bad[] = { 0x00, 0x40, 0x01 };
+    struct stripes_sender s, closed;
+    uint8_t out[STRIPES_MARKER_MOST];
+
+    memset(&closed, 0, sizeof closed);
+    memset(&s, UNTOUCHED, sizeof s);
+    KEEPS(s, stripes_send(&s, 100), 2, "a sender that was never opened");
+    KEEPS(s, stripes_marker(&s, 0, out, sizeof out), 2, "a marker from a sender that was never opened");
+    check(stripes_open(&s, bad, sizeof bad) == 1, "no sender opens on a bad plan");
+    check(memcmp(&s, &closed, sizeof s) == 0, "the closed state is all zeros");
+    KEEPS(s, stripes_send(&s, 100), 2, "a closed sender");
+    check(stripes_open(&s, NULL, 0) == 1, "no sender opens on no record");
+
+    check(stripes_open(&s, session_record, sizeof session_record) == 0, "the sender opens again");
+    KEEPS(s, stripes_send(&s, 0), 4, "no byte");
+    KEEPS(s, stripes_send(&s, 501), 4, "a byte more than the largest packet");
+    KEEPS(s, stripes_send(&s, SIZE_MAX), 4, "the largest length");
+    KEEPS(s, stripes_marker(&s, 2, out, sizeof out), 3, "a marker on line N");
+    KEEPS(s, stripes_marker(&s, 0, out, 3), 8, "a marker into too little room");
+    KEEPS(s, stripes_marker(&s, 0, NULL, 0), 8, "a marker into no room");
+    s.counters[1] = 0;
+    KEEPS(s, stripes_send(&s, 100), 2, "a counter of 0");
+    s.counters[1] = 500;
+    s.line = 2;
+    KEEPS(s, stripes_send(&s, 100), 2, "a current line that is none");
+    s.line = 1;
+    s.rounds[2] = 77;
+    s.counters[15] = 78;
+    check(stripes_send(&s, 100) == 1 && s.rounds[2] == 77 && s.counters[15] == 78, "entries from line N on are ignored and kept");
+}
+
 int main(void)
 {
-    static const uint8_t session[] = { 0x02, 0xF4, 0x03, 0x01, 0xE8, 0x07, 0xF4, 0x03 };
     uint8_t out[STRIPES_MARKER_MOST];
 
     printf("plan record:");
-    print_bytes(session, sizeof session);
-    printf("plan check: %u\n", (unsigned)stripes_check_plan(session, sizeof session));
+    print_bytes(session_record, sizeof session_record);
+    printf("plan check: %u\n", (unsigned)stripes_check_plan(session_record, sizeof session_record));
     printf("marker on line 0 at round 2, counter 800:");
     print_bytes(out, stripes_write_marker(0, 2, 800, out, sizeof out));
     printf("marker on line 1 at round 2, counter 350:");
@@ -119,6 +186,8 @@ int main(void)
 
     markers();
     plans();
+    session();
+    sender_refusals();
     printf("C driver: %u checks, %u failed\n", checks, failures);
     return failures != 0;
 }

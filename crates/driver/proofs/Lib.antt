@@ -1,1 +1,2 @@
+mod Small
 mod Determined

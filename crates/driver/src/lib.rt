@@ -1,11 +1,28 @@
-// What the driver, written in C, sees: the marker writer and the plan check, on numbers and byte slices. Each export calls the
-// proved function and turns its answer into one number; include/stripes.h is the other side. The definitions are in specs/Exports.antt.
+// What the driver, written in C, sees: the marker writer and the plan check, on numbers and byte slices, and the sender that it holds for
+// each bundle. Each export calls the proved function and turns its answer into one number; include/stripes.h is the other side. The
+// definitions are in specs/Exports.antt.
 use marker::Marker;
 use numbers::Written;
+use sender::Sender;
+use sender::SenderOpened;
+use sender::Sent;
 ghost use mathlib.Core.Path.{_≡_};
+ghost use Prim.Native.Nat.{_<_, _^_};
 ghost use Rattle.plan.specs.Record.{planRead};
 ghost use Rattle.marker.specs.Marker.{markerOf, markerWritten};
-ghost use Rattle.driver.specs.Exports.{exported};
+ghost use Rattle.sender.specs.Sender.{sendOf, markerFrom};
+ghost use Rattle.driver.specs.Exports.{exported, exportedSent, codedSend, openFrom};
+
+// A writer's answer as C gets it.
+fn code_of(w: Written) -> u32
+    requires { ⌜ exported w < 2 ^ 32 ⌝ }
+    ensures { λ r. ⌜ r ≡ exported w ⌝ }
+{
+    match w {
+        Written::Length(n) => n as u32,
+        Written::Refused(number) => 256 + number,
+    }
+}
 
 // The standalone marker writer: the length written, or 256 plus the number of the refusal.
 #[no_mangle]
@@ -18,10 +35,7 @@ pub extern "C" fn stripes_write_marker(line: u32, round: u32, counter: u32, out:
         round,
         counter,
     };
-    match marker::write_marker(m, out) {
-        Written::Length(n) => n as u32,
-        Written::Refused(number) => 256 + number,
-    }
+    code_of(marker::write_marker(m, out))
 }
 
 // The plan check: 0 for a record that reads, else the number of the refusal.
@@ -31,4 +45,78 @@ pub extern "C" fn stripes_check_plan(s: &[u8]) -> u32
 {
     let read = plan::read_plan(s);
     read.number
+}
+
+// A send's answer as C gets it, and the next state.
+struct CodedSend {
+    code: u32,
+    next: Sender,
+}
+
+fn coded_send(s: Sender, length: usize) -> CodedSend
+    ensures { λ r. ⌜ r ≡ codedSend s length ⌝ }
+{
+    let r = sender::send(s, length);
+    let answer = r.answer;
+    let next = r.next;
+    match answer {
+        Sent::Went(line, due) => {
+            if due {
+                return CodedSend {
+                    code: line + 16,
+                    next,
+                };
+            }
+            CodedSend { code: line, next }
+        }
+        Sent::Refused(number) => CodedSend {
+            code: 256 + number,
+            next,
+        },
+    }
+}
+
+// The thin send: it updates the sender that C holds. The line in the low four bits, 16 added when markers are due, or 256 plus the number of
+// the refusal.
+#[no_mangle]
+pub extern "C" fn stripes_send(s: &mut Sender, length: usize) -> u32
+    ensures { λ r. ⌜ (r ≡ exportedSent (sendOf (now (s .entry)) length .answer)) × (now (s .exit) ≡ sendOf (now (s .entry)) length .next) ⌝ }
+{
+    let r = coded_send(*s, length);
+    *s = r.next;
+    r.code
+}
+
+// A sender opened on the plan of a record. A record that is refused reads as an all-zero plan, on which no sender opens.
+fn open_from(bytes: &[u8]) -> SenderOpened
+    ensures { λ r. ⌜ r ≡ openFrom (now (bytes .entry)) ⌝ }
+{
+    let read = plan::read_plan(bytes);
+    let p = read.plan;
+    sender::open(p)
+}
+
+// Opens the sender that C holds, on the plan of a record: 0, or the number of the refusal and the closed state.
+#[no_mangle]
+pub extern "C" fn stripes_open(s: &mut Sender, bytes: &[u8]) -> u32
+    ensures { λ r. ⌜ (r ≡ openFrom (now (bytes .entry)) .number) × (now (s .exit) ≡ openFrom (now (bytes .entry)) .sender) ⌝ }
+{
+    let r = open_from(bytes);
+    *s = r.sender;
+    r.number
+}
+
+fn coded_marker(s: Sender, line: u32, out: &mut [u8]) -> u32
+    ensures { λ r. ⌜ (r ≡ exported (markerFrom s line (now (out .entry)) .answer)) × (now (out .exit) ≡ markerFrom s line (now (out .entry)) .out) ⌝ }
+{
+    code_of(sender::marker_from(s, line, out))
+}
+
+// Writes a marker with a line's figures from the sender that C holds: the length written, or 256 plus the number of the refusal.
+#[no_mangle]
+pub extern "C" fn stripes_marker(s: &Sender, line: u32, out: &mut [u8]) -> u32
+    ensures { λ r. ⌜ (r ≡ exported (markerFrom (now (s .entry)) line (now (out .entry)) .answer))
+        × (now (out .exit) ≡ markerFrom (now (s .entry)) line (now (out .entry)) .out) ⌝ }
+{
+    coded_marker(*s, line, out)
 }

@@ -1,18 +1,17 @@
 -- The laws of the marker record. Callers cite these and not the definitions' text. Assumes nothing.
 use mathlib.Core.Path.{_≡_, refl, ap, sym, _∙_}
-use Prim.Native.Nat.{ℕ, zero, suc, _^_, _≤_, _<_}
+use Prim.Native.Nat.{ℕ, _^_, _≤_, _<_}
 use native.Mathlib.Omega.{arith}
 use mathlib.Core.Bool.{Bool, true, false, cond}
 use mathlib.Core.List.{List, [], _∷_, _++_}
-use lib.ListN.{length, drop, getD}
-use lib.Dec.{leb, eqb}
+use lib.ListN.{length, drop}
+use lib.Dec.{eqb}
 use borrow.Author.Tests.{lt-ltb, le-ltb, eq-eqb, ne-eqb, eqb-true}
 use Rattle.numbers.specs.declared.Reading.the-variants.{Number, Nothing}
 use Rattle.numbers.specs.declared.Written.the-variants as w
-use Rattle.numbers.specs.Checks.{check}
 use Rattle.numbers.specs.Coding.{Bytes, readingOf, coded, rowBytes}
 use Rattle.numbers.specs.Writing.{written, outcome}
-use Rattle.numbers.proofs.Laws.{onward-written, onward-number, split, fits, bytes-drop, row-size, answered-length, answered-number}
+use Rattle.numbers.proofs.Laws.{onward-written, onward-number, split, fits, bytes-drop}
 use Rattle.plan.specs.Limits.{mostLines}
 use Rattle.marker.specs.declared.Marker.{Marker}
 use Rattle.marker.specs.declared.MarkerRead.{MarkerRead}
@@ -155,25 +154,3 @@ module _ (m : Marker) (out : List ℕ) where
     pub as-written : counterOk m ≡ true → written (markerBytes m) out ≡ markerWritten m out
     unfolding markerWritten
     as-written e = simp (lt-ltb (m .line) mostLines line, e)
-
-  -- an answer is a small number: at most fifteen bytes, or one of 3, 5 and 8
-  pub length-small : m .line < 2 ^ 32 → m .round < 2 ^ 32 → m .counter < 2 ^ 32 → (n : ℕ) → markerWritten m out .answer ≡ w.Length n → n ≤ 15
-  unfolding markerWritten
-  length-small l r c n e =
-      omega (arith, answered-length _ (markerBytes m) out n e, row-size (m .line ∷ m .round ∷ m .counter ∷ []) all)
-    where
-      all : (i : ℕ) → getD (m .line ∷ m .round ∷ m .counter ∷ []) i 0 < 2 ^ 32
-      all zero = l
-      all (suc zero) = r
-      all (suc (suc zero)) = c
-      all (suc (suc (suc i))) = omega arith
-
-  pub number-small : (k : ℕ) → markerWritten m out .answer ≡ w.Refused k → k ≤ 8
-  unfolding markerWritten
-  number-small k e = omega (arith, answered-number _ (markerBytes m) out k e, go (lineOk m) (counterOk m) (leb (length (markerBytes m)) (length out)))
-    where
-      go : (a b c : Bool) → check a 3 (check b 5 (check c 8 0)) ≤ 8
-      go true true true = omega arith
-      go true true false = omega arith
-      go true false c = omega arith
-      go false b c = omega arith

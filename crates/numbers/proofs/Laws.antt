@@ -232,6 +232,16 @@ coded-size-of w bits v pos f g = read-size (read-coded w v f []) bits pos g
 pub coded-size : (w v : ℕ) → 0 < w → v < 2 ^ w → 7 * length (coded w v) < w + 7
 coded-size w v pos f = coded-size-of w w v pos f f
 
+-- and whatever the number, no more than the width and one
+pub coded-short : (w v : ℕ) → length (coded w v) ≤ suc w
+unfolding coded
+coded-short zero v = omega arith
+coded-short (suc k) v = go (ltb v 128) (coded-short k (v / 128))
+  where
+    go : (t : Bool) → length (coded k (v / 128)) ≤ suc k → length (cond t (v ∷ []) ((v % 128 + 128) ∷ coded k (v / 128))) ≤ suc (suc k)
+    go true ih = omega arith
+    go false ih = omega arith
+
 -- ---- the bytes of a row
 
 pub row-next : (row : List ℕ) (i : ℕ) → i < length row → rowBytes (drop i row) ≡ coded 32 (getD row i 0) ++ rowBytes (drop (i + 1) row)
@@ -241,6 +251,11 @@ row-next row i h = rw (drop-cons row i 0 h, add-one)
 pub row-done : (row : List ℕ) (i : ℕ) → length row ≤ i → rowBytes (drop i row) ≡ []
 unfolding rowBytes
 row-done row i h = rw (drop-of-length-le row h)
+
+pub row-short : (row : List ℕ) → length (rowBytes row) ≤ 33 * length row
+unfolding rowBytes
+row-short [] = omega arith
+row-short (v ∷ row) = let ih = row-short row in simp length-append (omega (arith, coded-short 32 v))
 
 pub row-size : (row : List ℕ) → ((i : ℕ) → getD row i 0 < 2 ^ 32) → length (rowBytes row) ≤ 5 * length row
 unfolding rowBytes

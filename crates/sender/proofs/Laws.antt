@@ -1,19 +1,20 @@
 -- The laws of a valid sender and of its calls, test by test. Assumes nothing.
-use mathlib.Core.Path.{_≡_}
+use mathlib.Core.Path.{_≡_, refl}
 use Prim.Native.Nat.{ℕ, suc, _+_, _-_, _%_, _≤_, _<_}
 use native.Mathlib.Numerals.{add-one}
 use native.Mathlib.Omega.{arith}
-use mathlib.Core.Bool.{Bool, true, false}
+use mathlib.Core.Bool.{Bool, true, false, cond}
 use mathlib.Core.List.{List}
 use lib.ListN.{set}
 use lib.Seq.{set-getD}
-use lib.Dec.{ltb}
-use borrow.Author.Tests.{ltb-true, lt-ltb, le-ltb, le-leb, lt-leb, eq-eqb, ne-eqb}
+use lib.Dec.{ltb, eqb}
+use borrow.Author.Tests.{ltb-true, lt-ltb, le-ltb, le-leb, lt-leb, eq-eqb, ne-eqb, eqb-true}
 use Rattle.numbers.specs.declared.Written.the-variants as w
-use Rattle.numbers.specs.Checks.{inRange, allBelow}
+use Rattle.numbers.specs.Checks.{check, inRange, allBelow}
 use Rattle.numbers.specs.Writing.{written, outcome}
-use Rattle.numbers.proofs.Checks.{both, in-range as is-in-range, from-range, all-at, all}
+use Rattle.numbers.proofs.Checks.{check-passed, both, in-range as is-in-range, from-range, all-at, all}
 use Rattle.plan.specs.declared.Plan.{Plan}
+use Rattle.plan.specs.Limits.{mostLines}
 use Rattle.plan.specs.Plan.{quantum, planOk}
 use Rattle.plan.proofs.Laws.{in-range}
 use Rattle.sender.specs.declared.Sender.{Sender}
@@ -144,6 +145,11 @@ module _ (s : Sender) (length : ℕ) where
         covered-went h =
             simp (good, le-leb 1 length some, le-leb length (s .plan .max) most, lt-ltb (chargeNow s length) (at (s .counters) (s .line) + quantum (s .plan) (s .line)) h)
 
+-- a send that is not refused was of a valid state
+pub number-valid : (s : Sender) (size : ℕ) → sendNumber s size ≡ 0 → senderOk s ≡ true
+unfolding sendNumber
+number-valid s size e = check-passed (senderOk s) 2 _ (omega arith) e .0
+
 -- what a valid state gives the steps of a send
 pub ready : (s : Sender) → senderOk s ≡ true → (c : ℕ) → c < at (s .counters) (s .line) + quantum (s .plan) (s .line) → Ready s c
 ready s good c h =
@@ -176,3 +182,38 @@ not-opened p e = simp e
 pub is-opened : (p : Plan) → planOk p ≡ true → record { number = 0; sender = opened p } ≡ openOf p
 unfolding openOf
 is-opened p e = simp e
+
+-- ---- an answer is a small number
+
+module _ (s : Sender) (size : ℕ) where
+  abbrev decided : Bool → SendResult
+  decided t = cond t (wentWith s (chargeNow s size)) (refusedWith s (sendNumber s size))
+
+  -- the line that a packet goes to is one of sixteen
+  pub line-small : (line : ℕ) (due : Bool) → sendOf s size .answer ≡ Went line due → line < mostLines
+  unfolding sendOf
+  line-small line due e = go (eqb (sendNumber s size) 0) refl e
+    where
+      go : (t : Bool) → eqb (sendNumber s size) 0 ≡ t → decided t .answer ≡ Went line due → line < mostLines
+      go false h e = absurd (let z : _≡_ {A = ℕ} 0 1 = cc in omega arith)
+      go true h e =
+          let v = valid s (number-valid s size (eqb-true (sendNumber s size) 0 h)) in
+          let same : s .line ≡ line = cc in
+          omega (arith, v .is-line, in-range (s .plan) (v .plan) .few-lines)
+
+  -- a refusal's number is 2, 4 or 10
+  pub number-small : (k : ℕ) → sendOf s size .answer ≡ Refused k → k ≤ 10
+  unfolding sendOf sendNumber
+  number-small k e = go (eqb (sendNumber s size) 0) e
+    where
+      small : (a b c : Bool) → check a 2 (check b 4 (check c 10 0)) ≤ 10
+      small true true true = omega arith
+      small true true false = omega arith
+      small true false c = omega arith
+      small false b c = omega arith
+
+      go : (t : Bool) → decided t .answer ≡ Refused k → k ≤ 10
+      go true e = absurd (let z : _≡_ {A = ℕ} 0 1 = cc in omega arith)
+      go false e =
+          let same : sendNumber s size ≡ k = cc in
+          omega (arith, small (senderOk s) (inRange 1 size (s .plan .max)) (ltb (chargeNow s size) (at (s .counters) (s .line) + quantum (s .plan) (s .line))))
