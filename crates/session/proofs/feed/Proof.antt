@@ -1,0 +1,173 @@
+-- `session::feed` meets its contract: what is left of the piece, fed from here, makes the whole answer. Assumes nothing.
+use borrow.Author.Needs.{needs}
+use native.Mathlib.Nat.{sub-zero}
+use native.Mathlib.Omega.{arith}
+use mathlib.Core.Path.{_≡_, refl, ap, _∙_}
+use Prim.Native.Nat.{_-_, _≤_}
+use lib.ListN.{length, getD, drop}
+use lib.Seq.{length-sets}
+use Rattle.session.specs.Session.{lineEnds, feedOf}
+use Rattle.session.proofs.Feeding.{byte-ended, byte-line, byte-kept, byte-over, Left, left-all, turn, line-ended, feed-done, feed-full, left-none}
+use Rattle.session.proofs.feed.Statement.{statement}
+use Rattle.session.proofs.feed.Tie as tie
+
+abbrev Inv-loop : tie.InvT-loop
+Inv-loop bytes out₀ session₀ used₀ wrote₀ out session used wrote =
+    (used ≤ length bytes) × (wrote ≤ length out₀) × (length out ≡ length out₀)
+    × Left (feedOf session₀ bytes (length out₀)) out₀ out used wrote (feedOf session (drop used bytes) (length out₀ - wrote))
+
+abbrev μ-loop : tie.MeasureT-loop
+μ-loop bytes out₀ session₀ used₀ wrote₀ out session used wrote = length bytes - used
+
+loop-holds : tie.Need-loop-holds Inv-loop μ-loop
+loop-holds c = (omega arith, omega arith, refl, rw sub-zero (left-all _ _))
+
+sub-if1 : tie.Need-sub-if1 Inv-loop μ-loop
+sub-if1 c = search needs
+
+shared-slice-read-b : tie.Need-shared-slice-read-b Inv-loop μ-loop
+shared-slice-read-b c = search needs
+
+add-used : tie.Need-add-used Inv-loop μ-loop
+add-used c = search needs
+
+loop-less : tie.Need-loop-less Inv-loop μ-loop
+loop-less c = search needs
+
+loop-again : tie.Need-loop-again Inv-loop μ-loop
+loop-again c =
+    let l = c .before .before .before .before in
+    let st = l .before .before .before in
+    let bytes = st .args .bytes .now in
+    let out₀ = st .args .out .now in
+    let s = l .loop .session in
+    let b = getD bytes (l .loop .used) 0 in
+    let whole = feedOf (st .args .s) bytes (length out₀) in (
+      omega arith,
+      l .loop .inv .1,
+      l .loop .inv .2,
+      turn whole out₀ (l .loop .out) bytes (l .loop .used) (l .loop .wrote) s (c .before .before .before .loop-test .taken) (omega (arith, c .before .before .if1 .left)) _ (l .loop .out) (l .loop .wrote) (byte-ended s b (c .if2 .taken)) refl (omega arith) (l .loop .inv .3),
+    )
+
+end-line-requires : tie.Need-end-line-requires Inv-loop μ-loop
+end-line-requires c κs = search needs
+
+loop-less-2 : tie.Need-loop-less-2 Inv-loop μ-loop
+loop-less-2 c = search needs
+
+loop-again-2 : tie.Need-loop-again-2 Inv-loop μ-loop
+loop-again-2 c =
+    let l = c .before .before .before .before .before .before .before .before .before .before in
+    let st = l .before .before .before in
+    let bytes = st .args .bytes .now in
+    let out₀ = st .args .out .now in
+    let s = l .loop .session in
+    let b = getD bytes (l .loop .used) 0 in
+    let whole = feedOf (st .args .s) bytes (length out₀) in
+    let q = c .before .before .before .end-line .ensures in (
+      omega (arith, c .before .before .before .before .before .before .before .before .before .loop-test .taken),
+      omega (arith, q .1, q .3, c .before .before .before .before .before .before .before .before .if1 .left),
+      ap length (q .2) ∙ length-sets (l .loop .out) (l .loop .wrote) (lineEnds s .text) ∙ l .loop .inv .2,
+      turn whole out₀ (l .loop .out) bytes (l .loop .used) (l .loop .wrote) s (c .before .before .before .before .before .before .before .before .before .loop-test .taken) (omega (arith, c .before .before .before .before .before .before .before .before .if1 .left)) _ _ _
+          (byte-line s b (c .before .before .before .before .before .before .if2 .left) (c .before .before .before .before .before .if3 .taken) ∙ line-ended s _ (q .0)) (q .2) (q .1) (l .loop .inv .3),
+    )
+
+element-write-session : tie.Need-element-write-session Inv-loop μ-loop
+element-write-session c = search needs
+
+add-session : tie.Need-add-session Inv-loop μ-loop
+add-session c = search needs
+
+loop-less-3 : tie.Need-loop-less-3 Inv-loop μ-loop
+loop-less-3 c = search needs
+
+loop-again-3 : tie.Need-loop-again-3 Inv-loop μ-loop
+loop-again-3 c =
+    let l = c .before .before .before .before .before .before in
+    let st = l .before .before .before in
+    let bytes = st .args .bytes .now in
+    let out₀ = st .args .out .now in
+    let s = l .loop .session in
+    let b = getD bytes (l .loop .used) 0 in
+    let whole = feedOf (st .args .s) bytes (length out₀) in (
+      omega arith,
+      l .loop .inv .1,
+      l .loop .inv .2,
+      turn whole out₀ (l .loop .out) bytes (l .loop .used) (l .loop .wrote) s (c .before .before .before .before .before .loop-test .taken) (omega (arith, c .before .before .before .before .if1 .left)) _ (l .loop .out) (l .loop .wrote)
+          (byte-kept s b (c .before .before .if2 .left) (c .before .if3 .left) (c .if4 .taken)) refl (omega arith) (l .loop .inv .3),
+    )
+
+loop-less-4 : tie.Need-loop-less-4 Inv-loop μ-loop
+loop-less-4 c = search needs
+
+loop-again-4 : tie.Need-loop-again-4 Inv-loop μ-loop
+loop-again-4 c =
+    let l = c .before .before .before .before .before .before in
+    let st = l .before .before .before in
+    let bytes = st .args .bytes .now in
+    let out₀ = st .args .out .now in
+    let s = l .loop .session in
+    let b = getD bytes (l .loop .used) 0 in
+    let whole = feedOf (st .args .s) bytes (length out₀) in (
+      omega arith,
+      l .loop .inv .1,
+      l .loop .inv .2,
+      turn whole out₀ (l .loop .out) bytes (l .loop .used) (l .loop .wrote) s (c .before .before .before .before .before .loop-test .taken) (omega (arith, c .before .before .before .before .if1 .left)) _ (l .loop .out) (l .loop .wrote)
+          (byte-over s b (c .before .before .if2 .left) (c .before .if3 .left) (c .if4 .left)) refl (omega arith) (l .loop .inv .3),
+    )
+
+same-length : tie.Need-same-length Inv-loop μ-loop
+same-length c = c .before .loop .inv .2
+
+returns : tie.Need-returns Inv-loop μ-loop
+returns c =
+    let l = c .before in
+    let st = l .before .before .before in
+    let bytes = st .args .bytes .now in
+    let out₀ = st .args .out .now in
+    let s = l .loop .session in
+    let b = getD bytes (l .loop .used) 0 in
+    let whole = feedOf (st .args .s) bytes (length out₀) in
+    left-none whole out₀ (l .loop .out) (l .loop .used) (l .loop .wrote) s (l .loop .inv .2) (l .loop .inv .1)
+    (rw (feed-done s bytes (l .loop .used) (length out₀ - l .loop .wrote) (c .loop-test .left)) at (l .loop .inv .3))
+
+same-length-2 : tie.Need-same-length-2 Inv-loop μ-loop
+same-length-2 c = c .before .before .loop .inv .2
+
+returns-2 : tie.Need-returns-2 Inv-loop μ-loop
+returns-2 c =
+    let l = c .before .before in
+    let st = l .before .before .before in
+    let bytes = st .args .bytes .now in
+    let out₀ = st .args .out .now in
+    let s = l .loop .session in
+    let b = getD bytes (l .loop .used) 0 in
+    let whole = feedOf (st .args .s) bytes (length out₀) in
+    left-none whole out₀ (l .loop .out) (l .loop .used) (l .loop .wrote) s (l .loop .inv .2) (l .loop .inv .1)
+    (rw (feed-full s bytes (l .loop .used) (length out₀ - l .loop .wrote) (c .before .loop-test .taken) (omega (arith, c .if1 .taken))) at (l .loop .inv .3))
+
+pub feed-spec : {M : Type 1} → statement M
+feed-spec =
+    tie.close
+    (tie.spec
+    Inv-loop
+    μ-loop
+    loop-holds
+    sub-if1
+    shared-slice-read-b
+    add-used
+    loop-less
+    loop-again
+    end-line-requires
+    loop-less-2
+    loop-again-2
+    element-write-session
+    add-session
+    loop-less-3
+    loop-again-3
+    loop-less-4
+    loop-again-4
+    same-length
+    returns
+    same-length-2
+    returns-2)
