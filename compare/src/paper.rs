@@ -1,11 +1,19 @@
-//! The second program: the bundle's records as the specification words them, written without a look at the proved code. It is
-//! slow and plain on purpose: numbers are taken as 128-bit values, and a record is judged by writing it out again.
+//! The second program: the bundle's records and its sender as the specification words them, written without a look at the proved code.
+//! The records are slow and plain on purpose: numbers are taken as 128-bit values, and a record is judged by writing it out again. Sending
+//! is there in both of the specification's forms: `Sender` is the first, with a counter for each line, and `Definition` the second, by the
+//! bytes that each line has carried.
 
 /// The table's numbers.
 pub const PLAN: u32 = 1;
+pub const STATE: u32 = 2;
 pub const LINE: u32 = 3;
+pub const LENGTH: u32 = 4;
 pub const MARKER: u32 = 5;
 pub const OUTPUT: u32 = 8;
+pub const COUNTER: u32 = 10;
+
+/// An answer of this or above is a refusal.
+pub const REFUSED: u32 = 256;
 
 /// Low seven bits first, the top bit of a byte set when another follows.
 pub fn written(number: u128) -> Vec<u8> {
@@ -44,8 +52,9 @@ fn numbers(mut bytes: &[u8]) -> Option<Vec<u128>> {
     Some(all)
 }
 
-pub fn check_plan(record: &[u8]) -> u32 {
-    let good = numbers(record).is_some_and(|all| match all.as_slice() {
+/// The numbers of a plan record that is in range.
+fn plan_numbers(record: &[u8]) -> Option<Vec<u128>> {
+    numbers(record).filter(|all| match all.as_slice() {
         [lines, max, interval, quanta @ ..] => {
             (1..=16).contains(lines)
                 && (64..=9000).contains(max)
@@ -54,23 +63,180 @@ pub fn check_plan(record: &[u8]) -> u32 {
                 && quanta.iter().all(|quantum| (*max..=1_048_576).contains(quantum))
         }
         _ => false,
-    });
-    if good { 0 } else { PLAN }
+    })
 }
 
-/// The answer of the exported writer, and the output as it leaves it.
-pub fn write_marker(line: u32, round: u32, counter: u32, out: &[u8]) -> (u32, Vec<u8>) {
+pub fn check_plan(record: &[u8]) -> u32 {
+    if plan_numbers(record).is_some() { 0 } else { PLAN }
+}
+
+/// The answer of an exported writer, and the output as it leaves it: a marker goes to the front, unless something refuses it.
+fn put_marker(refusal: Option<u32>, line: u32, round: u32, counter: u32, out: &[u8]) -> (u32, Vec<u8>) {
     let record: Vec<u8> = [line, round, counter].iter().flat_map(|number| written(u128::from(*number))).collect();
+    let mut after = out.to_vec();
+    if let Some(number) = refusal {
+        return (REFUSED + number, after);
+    }
+    if out.len() < record.len() {
+        return (REFUSED + OUTPUT, after);
+    }
+    after[..record.len()].copy_from_slice(&record);
+    (record.len() as u32, after)
+}
+
+pub fn write_marker(line: u32, round: u32, counter: u32, out: &[u8]) -> (u32, Vec<u8>) {
     let refusal = if line >= 16 {
-        LINE
+        Some(LINE)
     } else if counter == 0 || counter > 1_048_576 {
-        MARKER
-    } else if out.len() < record.len() {
-        OUTPUT
+        Some(MARKER)
     } else {
-        let mut after = out.to_vec();
-        after[..record.len()].copy_from_slice(&record);
-        return (record.len() as u32, after);
+        None
     };
-    (256 + refusal, out.to_vec())
+    put_marker(refusal, line, round, counter, out)
+}
+
+/// As include/stripes.h has it.
+#[repr(C)]
+#[derive(Clone, Copy, Debug, Default, PartialEq, Eq)]
+pub struct Plan {
+    pub lines: u32,
+    pub max: u32,
+    pub interval: u32,
+    pub quanta: [u32; 16],
+}
+
+/// The first form: the current line, the countdown, and a round and a counter for each line.
+#[repr(C)]
+#[derive(Clone, Copy, Debug, Default, PartialEq, Eq)]
+pub struct Sender {
+    pub plan: Plan,
+    pub line: u32,
+    pub countdown: u32,
+    pub rounds: [u32; 16],
+    pub counters: [u32; 16],
+}
+
+impl Plan {
+    fn in_range(&self) -> bool {
+        (1..=16).contains(&self.lines)
+            && (64..=9000).contains(&self.max)
+            && (1..=65535).contains(&self.interval)
+            && self.quanta[..self.lines as usize].iter().all(|quantum| (self.max..=1_048_576).contains(quantum))
+    }
+}
+
+impl Sender {
+    pub fn open(record: &[u8]) -> (u32, Sender) {
+        let Some(all) = plan_numbers(record) else {
+            return (PLAN, Sender::default());
+        };
+        let mut sender = Sender::default();
+        (sender.plan.lines, sender.plan.max, sender.plan.interval) = (all[0] as u32, all[1] as u32, all[2] as u32);
+        sender.countdown = sender.plan.interval;
+        for (line, quantum) in all[3..].iter().enumerate() {
+            sender.plan.quanta[line] = *quantum as u32;
+            sender.counters[line] = *quantum as u32;
+            sender.rounds[line] = 1;
+        }
+        (0, sender)
+    }
+
+    fn is_valid(&self) -> bool {
+        self.plan.in_range()
+            && self.line < self.plan.lines
+            && (1..=self.plan.interval).contains(&self.countdown)
+            && (0..self.plan.lines as usize).all(|line| (1..=self.plan.quanta[line]).contains(&self.counters[line]))
+    }
+
+    pub fn send(&mut self, length: usize) -> u32 {
+        if !self.is_valid() {
+            return REFUSED + STATE;
+        }
+        if length == 0 || length > self.plan.max as usize {
+            return REFUSED + LENGTH;
+        }
+        let line = self.line as usize;
+        let quantum = i64::from(self.plan.quanta[line]);
+        let mut counter = i64::from(self.counters[line]) - length as i64;
+        let mut due = 0;
+        if counter <= 0 {
+            counter += quantum;
+            if counter <= 0 {
+                return REFUSED + COUNTER;
+            }
+            self.rounds[line] = self.rounds[line].wrapping_add(1);
+            self.line = (self.line + 1) % self.plan.lines;
+            if self.line == 0 {
+                self.countdown -= 1;
+                if self.countdown == 0 {
+                    self.countdown = self.plan.interval;
+                    due = 16;
+                }
+            }
+        }
+        self.counters[line] = counter as u32;
+        line as u32 + due
+    }
+
+    pub fn marker(&self, line: u32, out: &[u8]) -> (u32, Vec<u8>) {
+        let refusal = if !self.is_valid() {
+            Some(STATE)
+        } else if line >= self.plan.lines {
+            Some(LINE)
+        } else {
+            None
+        };
+        let at = line.min(15) as usize;
+        put_marker(refusal, line, self.rounds[at], self.counters[at], out)
+    }
+}
+
+/// The second form, for every history from opening: what each line has carried, in numbers that do not wrap.
+pub struct Definition {
+    plan: Plan,
+    carried: [u128; 16],
+    full_rounds: u128,
+}
+
+impl Definition {
+    pub fn open(plan: Plan) -> Self {
+        Definition { plan, carried: [0; 16], full_rounds: 0 }
+    }
+
+    fn round(&self, line: usize) -> u128 {
+        self.carried[line] / u128::from(self.plan.quanta[line]) + 1
+    }
+
+    /// Lowest round, lowest number on a tie.
+    fn choice(&self) -> usize {
+        (0..self.plan.lines as usize).min_by_key(|line| self.round(*line)).expect("a plan has a line")
+    }
+
+    /// The line of a packet, 16 added when it ends a full round whose number is a multiple of the interval.
+    pub fn send(&mut self, length: usize) -> u32 {
+        let line = self.choice();
+        let before = self.round(line);
+        self.carried[line] += length as u128;
+        let mut answer = line as u32;
+        if self.round(line) > before && self.choice() == 0 {
+            self.full_rounds += 1;
+            if self.full_rounds % u128::from(self.plan.interval) == 0 {
+                answer += 16;
+            }
+            for each in 0..self.plan.lines as usize {
+                let quanta = self.full_rounds * u128::from(self.plan.quanta[each]);
+                assert!(quanta <= self.carried[each] && self.carried[each] < quanta + u128::from(self.plan.max), "the share of line {each}");
+            }
+        }
+        answer
+    }
+
+    /// What a sender's state must show.
+    pub fn shows(&self, sender: &Sender) -> bool {
+        sender.line as usize == self.choice()
+            && (0..self.plan.lines as usize).all(|line| {
+                let quantum = u128::from(self.plan.quanta[line]);
+                u128::from(sender.rounds[line]) == self.round(line) % (1 << 32) && u128::from(sender.counters[line]) == quantum - self.carried[line] % quantum
+            })
+    }
 }
