@@ -113,10 +113,10 @@ module _ (s : Session) (room : ℕ) where
   close-full h = simp (lt-ltb room mostText h)
 
   module _ (h : mostText ≤ room) where
-    pub close-none : (leb 2 (s .table .stage) || (eqb (s .kept) 0 && ltb 0 (s .table .lines))) ≡ true → closeOf s room ≡ record { done = true; text = [] }
+    pub close-none : (leb 2 (s .table .stage) || (eqb (s .kept) 0 && leb 1 (s .table .stage))) ≡ true → closeOf s room ≡ record { done = true; text = [] }
     unfolding closeOf endOf
     close-none e = simp (le-ltb room mostText h, e)
 
-    pub close-line : (leb 2 (s .table .stage) || (eqb (s .kept) 0 && ltb 0 (s .table .lines))) ≡ false → closeOf s room ≡ record { done = true; text = lineEnds s .text }
+    pub close-line : (leb 2 (s .table .stage) || (eqb (s .kept) 0 && leb 1 (s .table .stage))) ≡ false → closeOf s room ≡ record { done = true; text = lineEnds s .text }
     unfolding closeOf endOf
     close-line e = simp (le-ltb room mostText h, e)

@@ -8,6 +8,7 @@ use mathlib.Core.List.{List, [], _∷_, _++_, append-assoc}
 use Prim.Native.Nat.{ℕ, zero, suc, _+_, _/_, _%_, _^_, _≤_, _<_}
 use lib.Dec.{ltb}
 use lib.ListN.{length, length-append}
+use lib.Seq.{length-sets}
 use Rattle.numbers.proofs.Laws.{sets-append}
 use Rattle.session.specs.Text.{space, lineFeed, digitsOf, decimal}
 use Rattle.session.specs.Table.{row, refusedText}
@@ -68,16 +69,20 @@ pub put-then : (x y out : List ℕ) (at : ℕ) {to end : ℕ} {a b : List ℕ} �
 put-then x y out at {to} {end} {a} {b} p q =
     (omega (arith, length-append x y, p .0, q .0), q .1 ∙ rw (p .0, p .1) (sym (sets-append out at x y)))
 
+pub put-same : (x out : List ℕ) (at : ℕ) {to : ℕ} {a : List ℕ} → Put x at out to a → length a ≡ length out
+put-same x out at p = ap length (p .1) ∙ length-sets out at x
+
+-- the next part has room where the whole has
+pub put-room : (x y whole out : List ℕ) (at : ℕ) {to : ℕ} {a : List ℕ} → Put x at out to a → length (x ++ y) ≤ length whole → at + length whole ≤ length out
+    → to + length y ≤ length a
+put-room x y whole out at p h f = omega (arith, p .0, length-append x y, put-same x out at p)
+
 -- a row's parts as they are put
 module _ (number n line round counter : ℕ) (due : Bool) where
   pub row-is : row number n line round counter due
       ≡ spaced number ++ spaced n ++ spaced line ++ spaced round ++ spaced counter ++ (cond due 77 45 ∷ lineFeed ∷ [])
   unfolding row
   row-is = simp append-assoc
-
-  pub row-length : length (row number n line round counter due)
-      ≡ length (spaced number) + length (spaced n) + length (spaced line) + length (spaced round) + length (spaced counter) + 2
-  row-length = ap length row-is ∙ simp length-append (omega arith)
 
 -- `refused ` and the parts behind it as they are put
 abbrev pub refusedWord : List ℕ

@@ -59,10 +59,10 @@ unfoldable pub textOf : Session → List ℕ → Fed
 textOf s [] = record { session = s; text = [] }
 textOf s (b ∷ bytes) = before (byteOf s b .text) (textOf (byteOf s b .session) bytes)
 
--- the end of the text: the last line may lack its line feed, and no text at all is one blank line
+-- the end of the text: the last line may lack its line feed, and no text at all is one blank line (a line, whatever it says, ends stage 0)
 unfoldable pub endOf : Session → Fed
 endOf s =
-    cond (leb 2 (s .table .stage) || (eqb (s .kept) 0 && ltb 0 (s .table .lines)))
+    cond (leb 2 (s .table .stage) || (eqb (s .kept) 0 && leb 1 (s .table .stage)))
     (record { session = s; text = [] })
     (lineEnds s)
 

@@ -4,7 +4,7 @@ use plan::Plan;
 use sender::Sender;
 use sender::Sent;
 ghost use mathlib.Core.Path.{_≡_};
-ghost use mathlib.Core.Bool.{_&&_};
+ghost use mathlib.Core.Bool.{_&&_, cond};
 ghost use mathlib.Core.List.{_++_};
 ghost use Prim.Native.Nat.{_+_, _≤_, _<_};
 ghost use lib.Dec.{ltb};
@@ -97,6 +97,13 @@ fn put_spaced(n: u64, out: &mut [u8], at: usize) -> usize
     end + 1
 }
 
+// M where markers are due, else a dash.
+fn mark(due: bool) -> u8
+    ensures { λ r. ⌜ r ≡ cond due 77 45 ⌝ }
+{
+    if due { b'M' } else { b'-' }
+}
+
 // Writes a packet's row.
 fn put_row(
     number: u64,
@@ -115,11 +122,10 @@ fn put_row(
     let after_size = put_spaced(size, out, after_number);
     let after_line = put_spaced(line, out, after_size);
     let after_round = put_spaced(round, out, after_line);
-    let mark = put_spaced(counter, out, after_round);
-    if due {
-        return put_text(b"M\n", out, mark);
-    }
-    put_text(b"-\n", out, mark)
+    let end = put_spaced(counter, out, after_round);
+    out[end] = mark(due);
+    out[end + 1] = b'\n';
+    end + 2
 }
 
 // Writes that a line was refused.
@@ -428,7 +434,7 @@ pub fn close(s: Session, out: &mut [u8]) -> Closed
         };
     }
     let table = s.table;
-    let empty = (s.kept == 0) & (0 < table.lines);
+    let empty = (s.kept == 0) & (1 <= table.stage);
     if (2 <= table.stage) | empty {
         return Closed {
             done: true,
