@@ -6,7 +6,7 @@
  *
  * Where a length is 0 the pointer may be NULL: nothing is read or written through it.
  *
- * A refusal is answered by its number, and changes no byte:
+ * A refusal is answered by its number, and changes no byte, but that a refused opening leaves the closed state:
  *
  *   1  the plan record breaks the table of ranges or the layout
  *   2  the sender's state is not valid: it was not opened, or something else has written to it

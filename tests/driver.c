@@ -1,6 +1,6 @@
 /* Calls what include/stripes.h declares and compares every answer, and every byte of the output, with what it must be.
- * Each number that the two functions can answer is provoked. Prints the session's figures, then the count of checks;
- * exits with 1 where one of them does not hold. */
+ * Each number that a call can answer is provoked, but 10, which no state brings about. Prints the session's figures, then
+ * the count of checks; exits with 1 where one of them does not hold. */
 #include "stripes.h"
 
 #include <stdio.h>

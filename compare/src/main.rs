@@ -128,7 +128,7 @@ fn compare_session(chance: &mut Chance, packets: u64) -> u64 {
     sent
 }
 
-/// A state that no history reaches: a valid one with a word changed, or noise.
+/// An opened sender with up to two words changed, now and then with every round at its end.
 fn damaged_sender(chance: &mut Chance) -> Sender {
     let (_, mut sender) = Sender::open(&good_plan(chance));
     for _ in 0..chance.between(0, 2) {

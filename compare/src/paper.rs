@@ -1,4 +1,4 @@
-//! The second program: the bundle's records and its sender as the specification words them, written without a look at the proved code.
+//! The second program: the bundle's records and its sender as the specification words them, and from those words alone.
 //! The records are slow and plain on purpose: numbers are taken as 128-bit values, and a record is judged by writing it out again. Sending
 //! is there in both of the specification's forms: `Sender` is the first, with a counter for each line, and `Definition` the second, by the
 //! bytes that each line has carried.

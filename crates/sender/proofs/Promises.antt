@@ -14,10 +14,11 @@ use Rattle.plan.specs.declared.Plan.{Plan}
 use Rattle.plan.specs.Limits.{mostLines}
 use Rattle.plan.specs.Plan.{quantum, planOk, chargeOf, trimmed}
 use Rattle.plan.proofs.Promises.{session}
+use Rattle.theory.specs.Sending as T
 use Rattle.sender.specs.declared.Sender.{Sender}
 use Rattle.sender.specs.declared.SendResult.{SendResult}
 use Rattle.sender.specs.Sender.{valuesOf, at, senderOk, openOf, nextSender, wentWith, refusedWith, chargeNow, sendNumber, sendOf, markerOn}
-use Rattle.sender.specs.History.{Call, send, after, afterOpening, Keeps}
+use Rattle.sender.specs.History.{Call, send, after, afterOpening, packets, inTheory, carriedBy, endedBy, Keeps}
 use Rattle.sender.proofs.Laws.{valid, is-valid}
 use Rattle.sender.proofs.Steps.{next-valid}
 use Rattle.sender.proofs.Histories as histories
@@ -76,6 +77,13 @@ sentFirst size =
 pub topped-up : (sentFirst 500 ≡ 1 ∷ 500 ∷ []) × (sentFirst 499 ≡ 0 ∷ 1 ∷ [])
 unfolding openOf sendOf sendNumber senderOk planOk allBelow nextSender chargeOf
 topped-up = (refl, refl)
+
+-- the premise of the share is met: packet 5 ends a full round, the first
+pub round-ends :
+    (T.ends (inTheory session) (carriedBy session (send 400 ∷ send 500 ∷ send 300 ∷ send 450 ∷ [])) 200 ≡ true)
+    × (endedBy session (send 400 ∷ send 500 ∷ send 300 ∷ send 450 ∷ send 200 ∷ []) ≡ 1)
+unfolding packets chargeOf T.ends T.ended T.carried T.charged T.choose T.best T.better
+round-ends = (refl, refl)
 
 -- the premises of `every-history` are met
 pub premises : (planOk session ≡ true) × (length (session .quanta) ≡ mostLines)
