@@ -1,17 +1,17 @@
 -- The laws of the marker record. Callers cite these and not the definitions' text. Assumes nothing.
 use mathlib.Core.Path.{_≡_, refl, ap, sym, _∙_}
-use Prim.Native.Nat.{ℕ, _^_, _≤_, _<_}
+use Prim.Native.Nat.{ℕ, _-_, _^_, _≤_, _<_}
 use native.Mathlib.Omega.{arith}
 use mathlib.Core.Bool.{Bool, true, false, cond}
 use mathlib.Core.List.{List, [], _∷_, _++_}
-use lib.ListN.{length, drop}
+use lib.ListN.{length, drop, length-drop}
 use lib.Dec.{eqb}
 use borrow.Author.Tests.{lt-ltb, le-ltb, eq-eqb, ne-eqb, eqb-true}
 use Rattle.numbers.specs.declared.Reading.the-variants.{Number, Nothing}
 use Rattle.numbers.specs.declared.Written.the-variants as w
 use Rattle.numbers.specs.Coding.{Bytes, readingOf, coded, rowBytes}
 use Rattle.numbers.specs.Writing.{written, outcome}
-use Rattle.numbers.proofs.Laws.{onward-written, onward-number, split, fits, bytes-drop}
+use Rattle.numbers.proofs.Laws.{onward-written, onward-number, split, fits, size, bytes-drop}
 use Rattle.plan.specs.Limits.{mostLines}
 use Rattle.marker.specs.declared.Marker.{Marker}
 use Rattle.marker.specs.declared.MarkerRead.{MarkerRead}
@@ -84,6 +84,31 @@ record-read s m bytes e =
       where
         go : (t : Bool) → eqb (length over) 0 ≡ t → cond t (Whole n) (Refused 5) ≡ Whole m → (over ≡ []) × (n ≡ m)
         go true h e = (none over (eqb-true (length over) 0 h), cc)
+        go false h e = absurd (whole-not-refused e)
+
+-- a marker has at most fifteen bytes, and its round is below 2^32
+pub fifteen-bytes : (s : List ℕ) (m : Marker) → recordRead s ≡ Whole m → (length s ≤ 15) × (m .round < 2 ^ 32)
+unfolding recordRead
+fifteen-bytes s m e =
+    let l = onward-number Is (readingOf 32 s) s (Refused 5) _ whole-not-refused e in
+    let s₁ = drop (l .1) s in
+    let r = onward-number Is (readingOf 32 s₁) s₁ (Refused 5) _ whole-not-refused (l .3) in
+    let s₂ = drop (r .1) s₁ in
+    let c = onward-number Is (readingOf 32 s₂) s₂ (Refused 5) _ whole-not-refused (r .3) in
+    let z = end (drop (c .1) s₂) (markerOf (l .0) (r .0) (c .0)) (c .3) in
+    let over : length s - l .1 - r .1 - c .1 ≡ 0 = simp length-drop at (z .0) in (
+      omega (arith, over, size 32 s (l .2) (omega arith), size 32 s₁ (r .2) (omega arith), size 32 s₂ (c .2) (omega arith)),
+      omega (arith, fits 32 s₁ (r .2), ap (λ (k : Marker). k .round) (z .1)),
+    )
+  where
+    Is : MarkerRead → Type 0
+    Is r = r ≡ Whole m
+
+    end : (over : List ℕ) (n : Marker) → cond (eqb (length over) 0) (Whole n) (Refused 5) ≡ Whole m → (length over ≡ 0) × (n ≡ m)
+    end over n e = go (eqb (length over) 0) refl e
+      where
+        go : (t : Bool) → eqb (length over) 0 ≡ t → cond t (Whole n) (Refused 5) ≡ Whole m → (length over ≡ 0) × (n ≡ m)
+        go true h e = (eqb-true (length over) 0 h, cc)
         go false h e = absurd (whole-not-refused e)
 
 -- number 0 is a whole marker

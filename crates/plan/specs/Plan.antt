@@ -1,7 +1,8 @@
 -- When a plan keeps to the table of ranges, and what a packet is charged.
-use Prim.Native.Nat.{ℕ, _+_, _-_}
-use mathlib.Core.Bool.{Bool, _&&_}
+use Prim.Native.Nat.{ℕ, _+_, _-_, _%_}
+use mathlib.Core.Bool.{Bool, _&&_, cond}
 use mathlib.Core.List.{List, _++_}
+use lib.Dec.{leb}
 use lib.ListN.{take, getD, replicate}
 use Rattle.numbers.specs.Checks.{inRange, allBelow}
 use Rattle.plan.specs.declared.Plan.{Plan}
@@ -14,6 +15,16 @@ quantum p i = getD (p .quanta) i 0
 -- what a packet of `length` bytes is charged on line i: its length
 unfoldable pub chargeOf : Plan → ℕ → ℕ → ℕ
 chargeOf p i length = length
+
+-- A counter falls by a charge c. Where it is then zero or less, it rises by the quantum q, and its line's round by one.
+abbrev pub spent : ℕ → ℕ → Bool
+spent counter c = leb counter c
+
+abbrev pub counterAfter : ℕ → ℕ → ℕ → ℕ
+counterAfter q counter c = cond (spent counter c) (counter + q - c) (counter - c)
+
+abbrev pub roundAfter : ℕ → ℕ → ℕ → ℕ
+roundAfter round counter c = cond (spent counter c) ((round + 1) % 4294967296) round
 
 abbrev pub quantumOk : Plan → ℕ → Bool
 quantumOk p i = inRange (p .max) (quantum p i) mostQuantum

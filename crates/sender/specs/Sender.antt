@@ -8,7 +8,7 @@ use Rattle.numbers.specs.Checks.{check, inRange, allBelow}
 use Rattle.numbers.specs.Writing.{Outcome, room, outcome}
 use Rattle.plan.specs.declared.Plan.{Plan}
 use Rattle.plan.specs.Limits.{mostLines, mostQuantum}
-use Rattle.plan.specs.Plan.{quantum, planOk, chargeOf, firstEntries, trimmed}
+use Rattle.plan.specs.Plan.{quantum, planOk, chargeOf, spent, counterAfter, roundAfter, firstEntries, trimmed}
 use Rattle.plan.specs.Record.{zeros, bare}
 use Rattle.marker.specs.Marker.{markerOf, markerBytes}
 use Rattle.sender.specs.declared.Sender.{Sender}
@@ -63,7 +63,7 @@ openOf p = cond (planOk p) (record { number = 0; sender = opened p }) (record { 
 
 -- the current line's counter falls by c; it is then zero or less
 abbrev pub runsOut : Sender → ℕ → Bool
-runsOut s c = leb (at (s .counters) (s .line)) c
+runsOut s c = spent (at (s .counters) (s .line)) c
 
 -- and line 0 is next: the round is complete
 abbrev pub completes : Sender → ℕ → Bool
@@ -79,10 +79,8 @@ nextSender s c = record {
   plan = s .plan;
   line = cond (runsOut s c) (cond (ltb (suc (s .line)) (s .plan .lines)) (suc (s .line)) 0) (s .line);
   countdown = cond (completes s c) (cond (eqb (s .countdown) 1) (s .plan .interval) (s .countdown - 1)) (s .countdown);
-  rounds = set (s .rounds) (s .line) (cond (runsOut s c) ((at (s .rounds) (s .line) + 1) % 4294967296) (at (s .rounds) (s .line)));
-  counters =
-      set (s .counters) (s .line)
-      (cond (runsOut s c) (at (s .counters) (s .line) + quantum (s .plan) (s .line) - c) (at (s .counters) (s .line) - c));
+  rounds = set (s .rounds) (s .line) (roundAfter (at (s .rounds) (s .line)) (at (s .counters) (s .line)) c);
+  counters = set (s .counters) (s .line) (counterAfter (quantum (s .plan) (s .line)) (at (s .counters) (s .line)) c);
 }
 
 abbrev pub refusedWith : Sender → ℕ → SendResult

@@ -1,12 +1,13 @@
 -- The choice of a line: it is a line, and at least as good as every other; only one line is.
 -- Assumes nothing.
-use Prim.Native.Nat.{ℕ, zero, suc, _≤_, _<_}
+use Prim.Native.Nat.{ℕ, zero, suc, _+_, _≤_, _<_}
 use mathlib.Core.Bool.{Bool, true, false, cond}
 use mathlib.Core.Path.{_≡_, refl}
 use native.Mathlib.Nat.{le-antisymm, le-refl}
 use native.Mathlib.Decide.{decLt}
 use native.Mathlib.Omega.{arith}
-use borrow.Author.Tests.{ltb-true, ltb-false}
+use native.Mathlib.Numerals.{add-one}
+use borrow.Author.Tests.{ltb-true, ltb-false, lt-ltb, le-ltb}
 use lib.Dec.{ltb}
 use Rattle.theory.specs.Sending.{Plan, rounds, better, best, choose}
 
@@ -46,13 +47,31 @@ better-wins key n b h below = go (ltb (key n) (key b)) refl
         wins-up-to key n n (le-refl n) (λ j l. let u = below j l in record { low = omega arith; tie = λ t. omega arith }) (beats-itself key n n refl)
     go false e = wins-up-to key n b h below (record { low = ltb-false _ _ e; tie = λ _. h })
 
-best-wins : (key : ℕ → ℕ) (n : ℕ) → 1 ≤ n → Wins key n (best key n)
+pub best-wins : (key : ℕ → ℕ) (n : ℕ) → 1 ≤ n → Wins key n (best key n)
 unfolding best
 best-wins key zero l = absurd (omega arith)
 best-wins key (suc zero) l = better-wins key 0 0 (le-refl 0) (λ j m. absurd (omega arith))
 best-wins key (suc (suc n)) l =
     let w = best-wins key (suc n) (omega arith) in
     better-wins key (suc n) (best key (suc n)) (omega arith) (w .beats)
+
+-- the best of one number more, by one comparison
+pub best-one : (key : ℕ → ℕ) → _≡_ {A = ℕ} 0 (best key 1)
+unfolding best better
+best-one key = go (ltb (key 0) (key 0))
+  where
+    go : (t : Bool) → _≡_ {A = ℕ} 0 (cond t 0 0)
+    go true = refl
+    go false = refl
+
+module _ (key : ℕ → ℕ) (n : ℕ) where
+  pub best-changed : key n < key (best key n) → n ≡ best key (n + 1)
+  unfolding best better
+  best-changed h = rw add-one (simp (lt-ltb (key n) (key (best key n)) h))
+
+  pub best-kept : key (best key n) ≤ key n → best key n ≡ best key (n + 1)
+  unfolding best better
+  best-kept h = rw add-one (simp (le-ltb (key n) (key (best key n)) h))
 
 pub choose-wins : (p : Plan) → 1 ≤ p .lines → (v : ℕ → ℕ) → Wins (rounds p v) (p .lines) (choose p v)
 unfolding choose

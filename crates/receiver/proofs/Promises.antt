@@ -1,0 +1,69 @@
+-- What the receiver promises of its queues. Assumes nothing.
+use mathlib.Core.Path.{_≡_, refl, ap, sym, _∙_}
+use Prim.Native.Nat.{ℕ, _≤_, _<_}
+use native.Mathlib.Omega.{arith}
+use mathlib.Core.Bool.{Bool, cond, _&&_}
+use mathlib.Core.List.{List, [], _∷_, _++_}
+use lib.Dec.{eqb}
+use lib.ListN.{length, drop}
+use borrow.Author.Tests.{eq-eqb}
+use Rattle.ring.specs.Queue.{Entry, entry}
+use Rattle.ring.proofs.Promises.{read-back}
+use Rattle.receiver.specs.Arriving.{Arrival, dataArrival, markerArrival}
+use Rattle.receiver.specs.Taking.{takeOf}
+use Rattle.receiver.specs.History.{data-comes, marker-comes, take, Stage, next, kept, takenBy, queueOn, EveryHistory}
+use Rattle.receiver.proofs.Stages.{Sound, HoldsOn, untouched-queue}
+use Rattle.receiver.proofs.Storing.{Lands, left, data-lands, marker-lands, landed-line, landed-holds, landed-other}
+use Rattle.receiver.proofs.Dropping.{taken-holds, taken-from, taken-other}
+use Rattle.receiver.proofs.Histories as histories
+
+-- From the opening on, after any calls, the state is valid, and a line's queue is what was stored on it, in order, but for as many items as were taken.
+pub every-history : EveryHistory
+every-history = histories.every-history
+
+-- ---- one call, from any sound stage s, on a line that holds items
+
+-- every line's queue but line i's stays as it was
+abbrev pub OthersStay : ℕ → Stage → Stage → Type 0
+OthersStay i s t = (j : ℕ) → j < s .receiver .plan .lines → (j ≡ i → ⊥) → queueOn j t ≡ queueOn j s
+
+abbrev pub Appends : ℕ → Entry → Stage → Stage → Type 0
+Appends i e s t = (queueOn i t ≡ queueOn i s ++ (e ∷ [])) × OthersStay i s t
+
+abbrev pub DropsHead : ℕ → Stage → Stage → Type 0
+DropsHead i s t = ((e : Entry) × (queueOn i s ≡ e ∷ queueOn i t)) × OthersStay i s t
+
+-- what one is dropped from has a head
+head-of : (es left : List Entry) (n : ℕ) → n ≡ 1 → n ≤ length es → left ≡ drop n es → (e : Entry) × (es ≡ e ∷ left)
+head-of [] left n one enough is = absurd (omega arith)
+head-of (e ∷ es) left n one enough is = (e, ap (λ (l : List Entry). e ∷ l) (sym (is ∙ ap (λ (k : ℕ). drop k (e ∷ es)) one)))
+
+module _ (s : Stage) (ok : Sound s) (i : ℕ) (es : List Entry) (h : HoldsOn i s es) where
+  appended : (kind : ℕ) (b : List ℕ) (a : Arrival) → Lands (s .receiver) i kind b (s .store) a → a .arrived .number ≡ 0
+      → Appends i (entry kind b) s (left a)
+  appended kind b a lands e =
+      let line = landed-line s ok i kind b a lands e in
+      let here : kept i i kind b a ≡ entry kind b ∷ [] =
+      ap (λ (t : Bool). cond (t && eqb (a .arrived .number) 0) (entry kind b ∷ []) []) (eq-eqb i i refl)
+      ∙ ap (λ (t : Bool). cond t (entry kind b ∷ []) []) (eq-eqb (a .arrived .number) 0 e) in (
+        read-back _ _ _ _ (landed-holds s ok i kind b a lands i line es h) ∙ ap (λ (new : List Entry). es ++ new) here
+            ∙ ap (λ (old : List Entry). old ++ (entry kind b ∷ [])) (sym (read-back _ _ _ es h)),
+        λ j other apart. untouched-queue (landed-other s ok i kind b a lands j other apart),
+      )
+
+  -- A packet or a marker that is accepted on line i is appended to line i's queue, and the other queues stay as they were.
+  pub arrival-appends : (b : List ℕ)
+      → (dataArrival (s .receiver) i b (s .store) .arrived .number ≡ 0 → Appends i (entry 0 b) s (next s (data-comes i b)))
+      × (markerArrival (s .receiver) i b (s .store) .arrived .number ≡ 0 → Appends i (entry 1 b) s (next s (marker-comes i b)))
+  unfolding next
+  arrival-appends b = (appended 0 b _ (data-lands (s .receiver) i b (s .store)), appended 1 b _ (marker-lands (s .receiver) i b (s .store)))
+
+  -- A take that takes an item from line i drops the head of line i's queue, and the other queues stay as they were.
+  pub take-drops : (out : List ℕ) → takenBy i (takeOf (s .receiver) (s .store) out .result .answer) ≡ 1 → DropsHead i s (next s (take out))
+  unfolding next
+  take-drops out one =
+      let t = taken-holds s ok out i es h in
+      let front = head-of es _ _ one (t .enough) (read-back _ _ _ _ (t .holds)) in (
+        (front .0, read-back _ _ _ es h ∙ front .1),
+        λ j other apart. untouched-queue (taken-other s ok out j (λ e. apart (e ∙ sym (taken-from s ok out i one)))),
+      )

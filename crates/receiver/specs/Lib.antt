@@ -1,0 +1,5 @@
+pub mod Receiver
+pub mod Arriving
+pub mod Taking
+pub mod Takes
+pub mod History
