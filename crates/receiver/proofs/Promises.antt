@@ -1,21 +1,66 @@
--- What the receiver promises of its queues. Assumes nothing.
+-- What the receiver promises: of refusals and of valid states, whatever a call is handed, and of its queues. Assumes nothing.
 use mathlib.Core.Path.{_≡_, refl, ap, sym, _∙_}
-use Prim.Native.Nat.{ℕ, _≤_, _<_}
+use Prim.Native.Nat.{ℕ, _+_, _≤_, _<_}
 use native.Mathlib.Omega.{arith}
-use mathlib.Core.Bool.{Bool, cond, _&&_}
+use mathlib.Core.Bool.{Bool, true, false, cond, _&&_}
 use mathlib.Core.List.{List, [], _∷_, _++_}
 use lib.Dec.{eqb}
 use lib.ListN.{length, drop}
 use borrow.Author.Tests.{eq-eqb}
+use Rattle.plan.specs.Limits.{itemHead}
 use Rattle.ring.specs.Queue.{Entry, entry}
 use Rattle.ring.proofs.Promises.{read-back}
-use Rattle.receiver.specs.Arriving.{Arrival, dataArrival, markerArrival}
+use Rattle.receiver.specs.declared.Receiver.{Receiver}
+use Rattle.receiver.specs.Receiver.{receiverOk}
+use Rattle.receiver.specs.Arriving.{Arrival, withItem, withStored, notStored, arrival, dataArrival, markerArrival}
 use Rattle.receiver.specs.Taking.{takeOf}
+use Rattle.receiver.specs.Takes.{goesOn}
 use Rattle.receiver.specs.History.{data-comes, marker-comes, take, Stage, next, kept, takenBy, queueOn, EveryHistory}
+use Rattle.receiver.proofs.Valid.{data-valid, marker-valid, take-valid, refused-stays}
 use Rattle.receiver.proofs.Stages.{Sound, HoldsOn, untouched-queue}
 use Rattle.receiver.proofs.Storing.{Lands, left, data-lands, marker-lands, landed-line, landed-holds, landed-other}
 use Rattle.receiver.proofs.Dropping.{taken-holds, taken-from, taken-other}
 use Rattle.receiver.proofs.Histories as histories
+
+-- ---- demand 1: of any state, valid or not
+
+-- A refused arrival hands back the state and the store; a take that is refused, or waits, hands back the state and leaves the output.
+abbrev pub HandsBack : Receiver → List ℕ → Arrival → Type 0
+HandsBack r store a = (a .arrived .number ≡ 0 → ⊥) → (a .arrived .next ≡ r) × (a .store ≡ store)
+
+handed-back : (number : ℕ) (r : Receiver) (i kind : ℕ) (b store : List ℕ) → HandsBack r store (arrival number r i kind b store)
+unfolding arrival
+handed-back number r i kind b store = go (eqb number 0)
+  where
+    go : (t : Bool)
+        → HandsBack r store
+        (cond t
+        (record { arrived = record { number = 0; next = withItem r i (itemHead + length b) }; store = withStored r i kind b store })
+        (record { arrived = notStored r number; store = store }))
+    go true refused = absurd (refused refl)
+    go false refused = (refl, refl)
+
+pub record Demand1 : Type 0 where
+  pub data-refused : (r : Receiver) (i : ℕ) (b store : List ℕ) → HandsBack r store (dataArrival r i b store)
+  pub marker-refused : (r : Receiver) (i : ℕ) (b store : List ℕ) → HandsBack r store (markerArrival r i b store)
+  pub take-refused : (r : Receiver) (store out : List ℕ) → goesOn (takeOf r store out .result .answer) ≡ false
+      → (takeOf r store out .result .next ≡ r) × (takeOf r store out .out ≡ out)
+  pub data-valid : (r : Receiver) (i : ℕ) (b store : List ℕ) → receiverOk r ≡ true → receiverOk (dataArrival r i b store .arrived .next) ≡ true
+  pub marker-valid : (r : Receiver) (i : ℕ) (b store : List ℕ) → receiverOk r ≡ true → receiverOk (markerArrival r i b store .arrived .next) ≡ true
+  pub take-valid : (r : Receiver) (store out : List ℕ) → receiverOk r ≡ true → receiverOk (takeOf r store out .result .next) ≡ true
+
+pub demand-1 : Demand1
+unfolding dataArrival markerArrival
+demand-1 = record {
+  data-refused = λ r i b store. handed-back _ r i 0 b store;
+  marker-refused = λ r i b store. handed-back _ r i 1 b store;
+  take-refused = refused-stays;
+  data-valid = data-valid;
+  marker-valid = marker-valid;
+  take-valid = take-valid;
+}
+
+-- ---- the queues
 
 -- From the opening on, after any calls, the state is valid, and a line's queue is what was stored on it, in order, but for as many items as were taken.
 pub every-history : EveryHistory
