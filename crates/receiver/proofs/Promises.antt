@@ -1,21 +1,30 @@
 -- What the receiver promises: of refusals and of valid states, whatever a call is handed, and of its queues. Assumes nothing.
 use mathlib.Core.Path.{_≡_, refl, ap, sym, _∙_}
-use Prim.Native.Nat.{ℕ, _+_, _≤_, _<_}
+use Prim.Native.Nat.{ℕ, _+_, _*_, _≤_, _<_}
 use native.Mathlib.Omega.{arith}
 use mathlib.Core.Bool.{Bool, true, false, cond, _&&_}
 use mathlib.Core.List.{List, [], _∷_, _++_}
 use lib.Dec.{eqb}
-use lib.ListN.{length, drop}
+use lib.ListN.{length, drop, replicate}
 use borrow.Author.Tests.{eq-eqb}
+use Rattle.plan.specs.declared.Plan.{Plan}
 use Rattle.plan.specs.Limits.{itemHead}
+use Rattle.plan.specs.Plan.{planOk, storeOk, chargeOf}
+use Rattle.numbers.specs.Checks.{allBelow}
+use Rattle.numbers.specs.Coding.{reading, readingOf}
+use Rattle.marker.specs.Marker.{recordRead}
+use Rattle.theory.specs.Sending.{best, better}
+use Rattle.report.specs.Report.{markerOn, markerChecked, ahead, reportOf}
+use Rattle.ring.specs.Ring.{fromRing, intoRing, held, stored, frontOf}
 use Rattle.ring.specs.Queue.{Entry, entry}
 use Rattle.ring.proofs.Promises.{read-back}
 use Rattle.receiver.specs.declared.Receiver.{Receiver}
-use Rattle.receiver.specs.Receiver.{receiverOk}
+use Rattle.receiver.specs.Receiver.{firstFrom, lineAt, receiverOk, openOf, ringOf, withRing}
 use Rattle.receiver.specs.Arriving.{Arrival, withItem, withStored, notStored, arrival, dataArrival, markerArrival}
-use Rattle.receiver.specs.Taking.{takeOf}
-use Rattle.receiver.specs.Takes.{goesOn}
-use Rattle.receiver.specs.History.{data-comes, marker-comes, take, Stage, next, kept, takenBy, queueOn, EveryHistory}
+use Rattle.receiver.specs.Taking.{lineStep, itemStep, roundNow, takeOf}
+use Rattle.receiver.specs.declared.Ended.the-variants.{Waiting}
+use Rattle.receiver.specs.Takes.{goesOn, takesFrom, takesOf}
+use Rattle.receiver.specs.History.{data-comes, marker-comes, take, Stage, stage, next, kept, takenBy, queueOn, EveryHistory}
 use Rattle.receiver.proofs.Valid.{data-valid, marker-valid, take-valid, refused-stays}
 use Rattle.receiver.proofs.Stages.{Sound, HoldsOn, untouched-queue}
 use Rattle.receiver.proofs.Storing.{Lands, left, data-lands, marker-lands, landed-line, landed-holds, landed-other}
@@ -112,3 +121,31 @@ module _ (s : Stage) (ok : Sound s) (i : ℕ) (es : List Entry) (h : HoldsOn i s
         (front .0, read-back _ _ _ es h ∙ front .1),
         λ j other apart. untouched-queue (taken-other s ok out j (λ e. apart (e ∙ sym (taken-from s ok out i one)))),
       )
+
+-- ---- the premises are met, and the calls compute
+
+abbrev small-plan : Plan
+small-plan = record { lines = 2; max = 64; interval = 1; quanta = 64 ∷ 70 ∷ replicate 14 0 }
+
+abbrev started : Stage
+started = stage (openOf small-plan 67 .receiver) (replicate 134 0)
+
+-- a packet and a marker on line 0
+abbrev fed : Stage
+fed = next (next started (data-comes 0 (7 ∷ 8 ∷ 9 ∷ []))) (marker-comes 0 (0 ∷ 2 ∷ 64 ∷ []))
+
+pub premises : (openOf small-plan 67 .number ≡ 0) × (length {A = ℕ} (replicate 134 0) ≡ small-plan .lines * 67)
+    × (dataArrival (started .receiver) 0 (7 ∷ 8 ∷ 9 ∷ []) (started .store) .arrived .number ≡ 0)
+    × (takenBy 0 (takeOf (fed .receiver) (fed .store) (replicate 4 0) .result .answer) ≡ 1)
+unfolding openOf planOk storeOk allBelow next dataArrival markerArrival arrival receiverOk lineAt firstFrom ahead ringOf withRing stored intoRing held fromRing frontOf markerOn markerChecked recordRead readingOf reading reportOf chargeOf takeOf lineStep itemStep roundNow best better
+premises = (refl, refl, refl, refl)
+
+-- the packet is handed out, then the marker reports the 61 bytes between it and the next round, and line 1 is waited for
+pub example : takesOf (fed .receiver) (fed .store) (replicate 4 0) (replicate 3 0)
+    ≡ record {
+      result = record { ended = Waiting 1; taken = 2; bytes = 3; next = takesOf (fed .receiver) (fed .store) (replicate 4 0) (replicate 3 0) .result .next };
+      out = 7 ∷ 8 ∷ 9 ∷ 0 ∷ [];
+      log = 192 ∷ 3905 ∷ 0 ∷ [];
+    }
+unfolding openOf planOk storeOk allBelow next dataArrival markerArrival arrival receiverOk lineAt firstFrom ahead ringOf withRing stored intoRing held fromRing frontOf markerOn markerChecked recordRead readingOf reading reportOf chargeOf takeOf lineStep itemStep roundNow best better takesOf takesFrom
+example = refl
