@@ -1,7 +1,9 @@
-// Links the archive that `rt staticlib driver` writes.
+// Links the archives that `rt staticlib driver` and `rt staticlib stage` write.
 fn main() {
     let root = std::env::var("CARGO_MANIFEST_DIR").expect("cargo sets it");
     println!("cargo:rustc-link-search=native={root}/../target/staticlib");
-    println!("cargo:rustc-link-lib=static=driver");
-    println!("cargo:rerun-if-changed=../target/staticlib/libdriver.a");
+    for archive in ["driver", "stage"] {
+        println!("cargo:rustc-link-lib=static={archive}");
+        println!("cargo:rerun-if-changed=../target/staticlib/lib{archive}.a");
+    }
 }

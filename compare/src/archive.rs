@@ -1,6 +1,7 @@
-//! The proved functions, as include/stripes.h declares them. A slice is a pointer and a length.
+//! The proved functions of both archives, the driver's (include/stripes.h) and the stage's. A slice is a pointer and a length.
 
 use crate::paper::Sender;
+use crate::stage::Receiver;
 
 extern "C" {
     fn stripes_write_marker(line: u32, round: u32, counter: u32, out: *mut u8, out_len: usize) -> u32;
@@ -8,6 +9,12 @@ extern "C" {
     fn stripes_open(sender: *mut Sender, record: *const u8, record_len: usize) -> u32;
     fn stripes_send(sender: *mut Sender, length: usize) -> u32;
     fn stripes_marker(sender: *const Sender, line: u32, out: *mut u8, out_len: usize) -> u32;
+
+    fn stage_open(receiver: *mut Receiver, record: *const u8, record_len: usize, size: u32) -> u32;
+    fn stage_data(receiver: *mut Receiver, line: u32, bytes: *const u8, len: usize, store: *mut u8, store_len: usize) -> u32;
+    fn stage_marker(receiver: *mut Receiver, line: u32, bytes: *const u8, len: usize, store: *mut u8, store_len: usize) -> u32;
+    fn stage_take(receiver: *mut Receiver, store: *const u8, store_len: usize, out: *mut u8, out_len: usize) -> u64;
+    fn stage_takes(receiver: *mut Receiver, store: *const u8, store_len: usize, out: *mut u8, out_len: usize, log: *mut u64, log_len: usize) -> usize;
 }
 
 pub fn write_marker(line: u32, round: u32, counter: u32, out: &mut [u8]) -> u32 {
@@ -28,4 +35,24 @@ pub fn send(sender: &mut Sender, length: usize) -> u32 {
 
 pub fn marker(sender: &Sender, line: u32, out: &mut [u8]) -> u32 {
     unsafe { stripes_marker(sender, line, out.as_mut_ptr(), out.len()) }
+}
+
+pub fn open_receiver(receiver: &mut Receiver, record: &[u8], size: u32) -> u32 {
+    unsafe { stage_open(receiver, record.as_ptr(), record.len(), size) }
+}
+
+pub fn data_arrives(receiver: &mut Receiver, line: u32, bytes: &[u8], store: &mut [u8]) -> u32 {
+    unsafe { stage_data(receiver, line, bytes.as_ptr(), bytes.len(), store.as_mut_ptr(), store.len()) }
+}
+
+pub fn marker_arrives(receiver: &mut Receiver, line: u32, bytes: &[u8], store: &mut [u8]) -> u32 {
+    unsafe { stage_marker(receiver, line, bytes.as_ptr(), bytes.len(), store.as_mut_ptr(), store.len()) }
+}
+
+pub fn take(receiver: &mut Receiver, store: &[u8], out: &mut [u8]) -> u64 {
+    unsafe { stage_take(receiver, store.as_ptr(), store.len(), out.as_mut_ptr(), out.len()) }
+}
+
+pub fn takes(receiver: &mut Receiver, store: &[u8], out: &mut [u8], log: &mut [u64]) -> usize {
+    unsafe { stage_takes(receiver, store.as_ptr(), store.len(), out.as_mut_ptr(), out.len(), log.as_mut_ptr(), log.len()) }
 }

@@ -23,7 +23,7 @@ fn time(lengths: &[usize], sender: &Sender, send: impl Fn(&mut Sender, usize) ->
     spent / lengths.len() as f64
 }
 
-fn median(mut times: Vec<f64>) -> f64 {
+pub fn median(mut times: Vec<f64>) -> f64 {
     times.sort_by(f64::total_cmp);
     times[times.len() / 2]
 }

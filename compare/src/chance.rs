@@ -23,6 +23,14 @@ impl Chance {
         self.next() % n == 0
     }
 
+    pub fn bytes(&mut self, count: usize) -> Vec<u8> {
+        let mut all = vec![0; count];
+        for piece in all.chunks_mut(8) {
+            piece.copy_from_slice(&self.next().to_le_bytes()[..piece.len()]);
+        }
+        all
+    }
+
     /// A number from low to high, now and then at an end of the range or just outside it, or any number at all.
     pub fn near(&mut self, low: u64, high: u64) -> u64 {
         match self.between(0, 23) {

@@ -1,11 +1,22 @@
 //! Holds the proved functions against the second program on many inputs, valid and damaged. Exits with 1 at the first
-//! difference, which it prints. With the word `bench` it times the two sends instead.
+//! difference, which it prints. With the word `bench` it times sends and takes instead.
 
 mod archive;
 mod bench;
+mod bench_takes;
 mod chance;
+mod damage;
+mod example;
+mod forge;
+mod pair;
 mod paper;
+mod plain;
+mod play;
 mod program;
+mod receiving;
+mod session;
+mod stage;
+mod taking;
 mod text;
 
 use chance::Chance;
@@ -186,10 +197,12 @@ fn compare_senders(chance: &mut Chance) {
 
 fn main() {
     if std::env::args().nth(1).as_deref() == Some("bench") {
-        return bench::sends();
+        bench::sends();
+        return bench_takes::takes();
     }
     let chance = &mut Chance::new(2026);
     compare_records(chance);
     compare_senders(chance);
     program::compare(chance);
+    receiving::compare(chance);
 }

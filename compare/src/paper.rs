@@ -1,4 +1,5 @@
-//! The second program: the bundle's records and its sender as the specification words them, and from those words alone.
+//! The second program: the bundle's records and its sender as the specification words them, and from those words alone (the receiver is in
+//! stage.rs).
 //! The records are slow and plain on purpose: numbers are taken as 128-bit values, and a record is judged by writing it out again. Sending
 //! is there in both of the specification's forms: `Sender` is the first, with a counter for each line, and `Definition` the second, by the
 //! bytes that each line has carried.
@@ -9,7 +10,10 @@ pub const STATE: u32 = 2;
 pub const LINE: u32 = 3;
 pub const LENGTH: u32 = 4;
 pub const MARKER: u32 = 5;
+pub const OTHER_LINE: u32 = 6;
+pub const ROOM: u32 = 7;
 pub const OUTPUT: u32 = 8;
+pub const STORE: u32 = 9;
 pub const COUNTER: u32 = 10;
 
 /// An answer of this or above is a refusal.
@@ -42,7 +46,7 @@ pub fn read(bytes: &[u8]) -> Option<(u128, &[u8])> {
 }
 
 /// Every number of a record, or nothing where a byte is left that belongs to none.
-fn numbers(mut bytes: &[u8]) -> Option<Vec<u128>> {
+pub fn numbers(mut bytes: &[u8]) -> Option<Vec<u128>> {
     let mut all = Vec::new();
     while !bytes.is_empty() {
         let (number, rest) = read(bytes)?;
@@ -117,7 +121,17 @@ pub struct Sender {
 }
 
 impl Plan {
-    fn in_range(&self) -> bool {
+    /// The plan of a record, entries from its lines on zero.
+    pub fn read(record: &[u8]) -> Option<Plan> {
+        let all = plan_numbers(record)?;
+        let mut plan = Plan { lines: all[0] as u32, max: all[1] as u32, interval: all[2] as u32, quanta: [0; 16] };
+        for (line, quantum) in all[3..].iter().enumerate() {
+            plan.quanta[line] = *quantum as u32;
+        }
+        Some(plan)
+    }
+
+    pub fn in_range(&self) -> bool {
         (1..=16).contains(&self.lines)
             && (64..=9000).contains(&self.max)
             && (1..=65535).contains(&self.interval)
@@ -127,17 +141,11 @@ impl Plan {
 
 impl Sender {
     pub fn open(record: &[u8]) -> (u32, Sender) {
-        let Some(all) = plan_numbers(record) else {
+        let Some(plan) = Plan::read(record) else {
             return (PLAN, Sender::default());
         };
-        let mut sender = Sender::default();
-        (sender.plan.lines, sender.plan.max, sender.plan.interval) = (all[0] as u32, all[1] as u32, all[2] as u32);
-        sender.countdown = sender.plan.interval;
-        for (line, quantum) in all[3..].iter().enumerate() {
-            sender.plan.quanta[line] = *quantum as u32;
-            sender.counters[line] = *quantum as u32;
-            sender.rounds[line] = 1;
-        }
+        let mut sender = Sender { plan, line: 0, countdown: plan.interval, rounds: [0; 16], counters: plan.quanta };
+        sender.rounds[..plan.lines as usize].fill(1);
         (0, sender)
     }
 

@@ -1,0 +1,115 @@
+//! A receiver of each side, the archive's and the second program's. Every call goes to both; then answer, state, store, output and log must
+//! be equal. Behind each output and log lie a few places that are not lent, and must stay.
+
+use crate::paper::Plan;
+use crate::stage::Receiver;
+use crate::{archive, differs, plain};
+
+const BEHIND: usize = 8;
+
+pub struct Pair {
+    pub receiver: Receiver,
+    pub store: Vec<u8>,
+    second: Receiver,
+    second_store: Vec<u8>,
+}
+
+/// No state that an opening leaves: every word is set.
+fn unopened() -> Receiver {
+    const WORD: u32 = 0xEEEE_EEEE;
+    let plan = Plan { lines: WORD, max: WORD, interval: WORD, quanta: [WORD; 16] };
+    Receiver { plan, size: WORD, round: WORD, rounds: [WORD; 16], counters: [WORD; 16], heads: [WORD; 16], used: [WORD; 16] }
+}
+
+/// The answer of an opening, and the state it leaves.
+pub fn opened(record: &[u8], size: u32) -> (u32, Receiver) {
+    let mut receiver = unopened();
+    let proved = (archive::open_receiver(&mut receiver, record, size), receiver);
+    let second = Receiver::open(record, size);
+    if proved != second {
+        differs("opening a receiver", format!("{record:02x?} {size}: {proved:?} and {second:?}"));
+    }
+    proved
+}
+
+fn first_difference<T: PartialEq>(one: &[T], other: &[T]) -> Option<usize> {
+    one.iter().zip(other).position(|(a, b)| a != b)
+}
+
+/// The same again, with places behind it that are not lent.
+fn longer<T: Copy>(before: &[T], behind: T) -> Vec<T> {
+    before.iter().copied().chain([behind; BEHIND]).collect()
+}
+
+/// How many takes a run did, and output and log as it leaves them, with what lies behind them.
+type Run = (usize, Vec<u8>, Vec<u64>);
+
+fn run(takes: impl Fn(&mut Receiver, &[u8], &mut [u8], &mut [u64]) -> usize, state: &mut Receiver, store: &[u8], out: &[u8], log: &[u64]) -> Run {
+    let (mut output, mut words) = (longer(out, 0xEE), longer(log, u64::MAX));
+    let done = takes(state, store, &mut output[..out.len()], &mut words[..log.len()]);
+    (done, output, words)
+}
+
+impl Pair {
+    pub fn new(receiver: Receiver, store: Vec<u8>) -> Pair {
+        Pair { receiver, second: receiver, second_store: store.clone(), store }
+    }
+
+    /// Holds both sides against each other after a call.
+    fn hold<A: PartialEq + std::fmt::Debug>(&self, before: &Receiver, call: &dyn Fn() -> String, proved: A, second: A) -> A {
+        if proved != second || self.receiver != self.second {
+            differs(&call(), format!("{before:?}: {proved:?} {:?} and {second:?} {:?}", self.receiver, self.second));
+        }
+        if self.store != self.second_store {
+            differs(&call(), format!("{before:?}: the stores from {:?} on", first_difference(&self.store, &self.second_store)));
+        }
+        proved
+    }
+
+    pub fn data(&mut self, line: u32, bytes: &[u8]) -> u32 {
+        let before = self.receiver;
+        let proved = archive::data_arrives(&mut self.receiver, line, bytes, &mut self.store);
+        let second = self.second.data(line, bytes, &mut self.second_store);
+        self.hold(&before, &|| format!("data on line {line}, length {}", bytes.len()), proved, second)
+    }
+
+    pub fn marker(&mut self, line: u32, bytes: &[u8]) -> u32 {
+        let before = self.receiver;
+        let proved = archive::marker_arrives(&mut self.receiver, line, bytes, &mut self.store);
+        let second = self.second.marker(line, bytes, &mut self.second_store);
+        self.hold(&before, &|| format!("a marker on line {line}, {bytes:02x?}"), proved, second)
+    }
+
+    /// The answer of a take, and the output as it leaves it.
+    pub fn take(&mut self, out: &[u8]) -> (u64, Vec<u8>) {
+        let before = self.receiver;
+        let (mut one, mut other) = (longer(out, 0xEE), longer(out, 0xEE));
+        let proved = archive::take(&mut self.receiver, &self.store, &mut one[..out.len()]);
+        let second = self.second.take(&self.second_store, &mut other[..out.len()]).word();
+        let word = self.hold(&before, &|| format!("a take into {} bytes", out.len()), proved, second);
+        if one != other {
+            differs("a take's output", format!("{before:?}: {word} and the bytes from {:?} on", first_difference(&one, &other)));
+        }
+        one.truncate(out.len());
+        (word, one)
+    }
+
+    /// A run of takes; the benchmark's loop must do the same as the two sides.
+    pub fn takes(&mut self, out: &[u8], log: &[u64]) -> Run {
+        let (before, mut state) = (self.receiver, self.receiver);
+        let mut proved = run(archive::takes, &mut self.receiver, &self.store, out, log);
+        let second = run(Receiver::takes, &mut self.second, &self.second_store, out, log);
+        let plain = run(plain::takes, &mut state, &self.store, out, log);
+        self.hold(&before, &|| format!("{} takes into {} bytes", log.len(), out.len()), proved.0, second.0);
+        if proved != second {
+            let from = (first_difference(&proved.1, &second.1), first_difference(&proved.2, &second.2));
+            differs("a run's output and log", format!("{before:?}: from {from:?} on"));
+        }
+        if plain != second || state != self.second {
+            differs("the benchmark's loop", format!("{before:?}: {} {state:?} and {} {:?}", plain.0, second.0, self.second));
+        }
+        proved.1.truncate(out.len());
+        proved.2.truncate(log.len());
+        proved
+    }
+}

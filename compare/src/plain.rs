@@ -1,0 +1,140 @@
+//! The take loop as one would write it in Rust for speed, with the same answers: state and store are checked once for a run, each item by
+//! itself. The benchmark times it beside the archive's.
+
+use crate::stage::Receiver;
+
+/// A line's bytes in the store, from its head on.
+struct Ring<'a> {
+    bytes: &'a [u8],
+    head: usize,
+}
+
+impl Ring<'_> {
+    fn place(&self, behind: usize) -> usize {
+        let at = self.head + behind;
+        if at < self.bytes.len() { at } else { at - self.bytes.len() }
+    }
+
+    fn byte(&self, behind: usize) -> u8 {
+        self.bytes[self.place(behind)]
+    }
+
+    /// At most two runs: up to the end of the ring, and from its start.
+    fn copy(&self, behind: usize, into: &mut [u8]) {
+        let (start, from) = self.bytes.split_at(self.place(behind));
+        if into.len() <= from.len() {
+            into.copy_from_slice(&from[..into.len()]);
+        } else {
+            let (first, second) = into.split_at_mut(from.len());
+            first.copy_from_slice(from);
+            second.copy_from_slice(&start[..second.len()]);
+        }
+    }
+}
+
+/// The number at the front, in its shortest form below 2^32, and what is behind it.
+fn number(bytes: &[u8]) -> Option<(u32, &[u8])> {
+    let mut value = 0u64;
+    for (at, byte) in bytes.iter().take(5).enumerate() {
+        value |= u64::from(byte & 0x7f) << (7 * at);
+        if byte & 0x80 == 0 {
+            let shortest = at == 0 || *byte != 0;
+            return Some((u32::try_from(value).ok().filter(|_| shortest)?, &bytes[at + 1..]));
+        }
+    }
+    None
+}
+
+/// The numbers of a marker.
+fn marker(bytes: &[u8]) -> Option<(u32, u32, u32)> {
+    let (line, bytes) = number(bytes)?;
+    let (round, bytes) = number(bytes)?;
+    let (counter, bytes) = number(bytes)?;
+    bytes.is_empty().then_some((line, round, counter))
+}
+
+/// The line to take from once this one's round has risen; the current round moves on where no line is left at it.
+fn next_line(receiver: &mut Receiver, line: usize) -> usize {
+    let rounds = &receiver.rounds[..receiver.plan.lines as usize];
+    if let Some(after) = rounds[line + 1..].iter().position(|round| *round == receiver.round) {
+        return line + 1 + after;
+    }
+    let ahead = |line: &usize| rounds[*line].wrapping_sub(receiver.round);
+    let nearest = (0..rounds.len()).min_by_key(ahead).unwrap_or(0);
+    receiver.round = rounds[nearest];
+    nearest
+}
+
+/// Takes the bytes of a data item to the output. Answers its word and whether the line's round has risen.
+fn take_data(receiver: &mut Receiver, line: usize, ring: &Ring, out: &mut [u8]) -> (u64, bool) {
+    ring.copy(3, out);
+    let (counter, length) = (receiver.counters[line], out.len() as u32);
+    let raised = counter <= length;
+    if raised {
+        receiver.counters[line] = counter + receiver.plan.quanta[line] - length;
+        receiver.rounds[line] = receiver.rounds[line].wrapping_add(1);
+    } else {
+        receiver.counters[line] = counter - length;
+    }
+    (4 * line as u64 + 64 * u64::from(length), raised)
+}
+
+/// Applies a marker item, where it is one.
+fn take_marker(receiver: &mut Receiver, line: usize, ring: &Ring, length: usize) -> Option<(u64, bool)> {
+    let mut buffer = [0; 15];
+    let bytes = buffer.get_mut(..length)?;
+    ring.copy(3, bytes);
+    let (named, round, counter) = marker(bytes)?;
+    let quantum = receiver.plan.quanta[line];
+    if named as usize != line || counter == 0 || counter > quantum {
+        return None;
+    }
+    let ahead = round.wrapping_sub(receiver.rounds[line]);
+    if ahead >= 1 << 31 || ahead == 0 && counter > receiver.counters[line] {
+        return Some((2 + 4 * line as u64, false));
+    }
+    let missing = u64::from(ahead) * u64::from(quantum) + u64::from(receiver.counters[line]) - u64::from(counter);
+    receiver.rounds[line] = round;
+    receiver.counters[line] = counter;
+    Some((1 + 4 * line as u64 + 64 * missing, ahead > 0))
+}
+
+/// As the archive's `stage_takes`.
+pub fn takes(receiver: &mut Receiver, store: &[u8], out: &mut [u8], log: &mut [u64]) -> usize {
+    if log.is_empty() || receiver.refusal(store).is_some() {
+        return 0;
+    }
+    let (size, max) = (receiver.size as usize, receiver.plan.max as usize);
+    let mut line = receiver.current();
+    let mut written = 0;
+    for (done, word) in log.iter_mut().enumerate() {
+        let used = receiver.used[line] as usize;
+        if used < 3 {
+            return done;
+        }
+        let ring = Ring { bytes: &store[line * size..][..size], head: receiver.heads[line] as usize };
+        let length = usize::from(u16::from_le_bytes([ring.byte(1), ring.byte(2)]));
+        if 3 + length > used {
+            return done;
+        }
+        let taken = match ring.byte(0) {
+            0 if (1..=max).contains(&length) && length <= out.len() - written => {
+                let packet = &mut out[written..written + length];
+                written += length;
+                Some(take_data(receiver, line, &ring, packet))
+            }
+            1 => take_marker(receiver, line, &ring, length),
+            _ => None,
+        };
+        let Some((answer, raised)) = taken else {
+            return done;
+        };
+        *word = answer;
+        receiver.heads[line] = ring.place(3 + length) as u32;
+        receiver.used[line] = (used - 3 - length) as u32;
+        if raised {
+            line = next_line(receiver, line);
+        }
+    }
+    log.len()
+}

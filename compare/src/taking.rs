@@ -1,0 +1,109 @@
+//! The second program's takes, from the specification's words alone: one item of the current line, and runs of such takes.
+
+use crate::paper::{OUTPUT, STORE};
+use crate::stage::{Item, Receiver};
+
+/// What a take comes to.
+#[derive(Clone, Copy, Debug, PartialEq, Eq)]
+pub enum Outcome {
+    Data { line: usize, length: usize },
+    Marker { line: usize, missing: u64 },
+    Behind { line: usize },
+    Waiting { line: usize },
+    Refused(u32),
+}
+
+impl Outcome {
+    /// The word that the archive answers: the kind, 4 times the line, 64 times the value.
+    pub fn word(self) -> u64 {
+        let (kind, line, value) = match self {
+            Outcome::Data { line, length } => (0, line, length as u64),
+            Outcome::Marker { line, missing } => (1, line, missing),
+            Outcome::Behind { line } => (2, line, 0),
+            Outcome::Waiting { line } => (3, line, 0),
+            Outcome::Refused(number) => (3, 0, u64::from(number)),
+        };
+        kind + 4 * line as u64 + 64 * value
+    }
+
+    /// Whether an item was taken.
+    fn is_taken(self) -> bool {
+        !matches!(self, Outcome::Waiting { .. } | Outcome::Refused(_))
+    }
+}
+
+impl Receiver {
+    pub fn take(&mut self, store: &[u8], out: &mut [u8]) -> Outcome {
+        if let Some(number) = self.refusal(store) {
+            return Outcome::Refused(number);
+        }
+        let line = self.current();
+        if self.used[line] == 0 {
+            return Outcome::Waiting { line };
+        }
+        let Some((item, all)) = self.head_item(line, store) else {
+            return Outcome::Refused(STORE);
+        };
+        let outcome = match item {
+            Item::Data(bytes) if out.len() < bytes.len() => return Outcome::Refused(OUTPUT),
+            Item::Data(bytes) => {
+                out[..bytes.len()].copy_from_slice(&bytes);
+                self.charge(line, bytes.len());
+                Outcome::Data { line, length: bytes.len() }
+            }
+            Item::Marker { round, counter } => self.apply(line, round, counter),
+        };
+        self.heads[line] = (self.heads[line] + all) % self.size;
+        self.used[line] -= all;
+        outcome
+    }
+
+    /// The counter moves as in sending.
+    fn charge(&mut self, line: usize, length: usize) {
+        let counter = i64::from(self.counters[line]) - length as i64;
+        if counter > 0 {
+            self.counters[line] = counter as u32;
+        } else {
+            self.counters[line] = (counter + i64::from(self.plan.quanta[line])) as u32;
+            self.rounds[line] = self.rounds[line].wrapping_add(1);
+            self.raised();
+        }
+    }
+
+    fn apply(&mut self, line: usize, round: u32, counter: u32) -> Outcome {
+        let ahead = round.wrapping_sub(self.rounds[line]);
+        if ahead >= 1 << 31 || ahead == 0 && counter > self.counters[line] {
+            return Outcome::Behind { line };
+        }
+        let missing = u64::from(ahead) * u64::from(self.plan.quanta[line]) + u64::from(self.counters[line]) - u64::from(counter);
+        (self.rounds[line], self.counters[line]) = (round, counter);
+        if ahead > 0 {
+            self.raised();
+        }
+        Outcome::Marker { line, missing }
+    }
+
+    /// A line's round has risen: where no line is left at the current round, it becomes the nearest that some line has.
+    fn raised(&mut self) {
+        if self.lines().all(|line| self.rounds[line] != self.round) {
+            let nearest = self.lines().map(|line| self.rounds[line].wrapping_sub(self.round)).min().expect("a plan has a line");
+            self.round = self.round.wrapping_add(nearest);
+        }
+    }
+
+    /// Takes until one takes nothing or the log is full; each packet goes behind the ones before it.
+    pub fn takes(&mut self, store: &[u8], out: &mut [u8], log: &mut [u64]) -> usize {
+        let mut written = 0;
+        for done in 0..log.len() {
+            let outcome = self.take(store, &mut out[written..]);
+            if !outcome.is_taken() {
+                return done;
+            }
+            if let Outcome::Data { length, .. } = outcome {
+                written += length;
+            }
+            log[done] = outcome.word();
+        }
+        log.len()
+    }
+}
