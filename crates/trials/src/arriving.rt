@@ -8,7 +8,7 @@ use receiver::Receiver;
 ghost use Prim.Native.Nat.{_≤_};
 
 // Data of n bytes on a line, with so many bytes of store.
-pub fn data(call: &[u8], r: Receiver, size: usize, line: u32, n: usize)
+pub(crate) fn data(call: &[u8], r: Receiver, size: usize, line: u32, n: usize)
     requires { ⌜ (size ≤ 5000) × (n ≤ 501) ⌝ }
 {
     let bytes = paper::too_long();
@@ -21,7 +21,7 @@ pub fn data(call: &[u8], r: Receiver, size: usize, line: u32, n: usize)
 }
 
 // A marker on a line, with so many bytes of store.
-pub fn marker(call: &[u8], r: Receiver, size: usize, line: u32, bytes: &[u8])
+pub(crate) fn marker(call: &[u8], r: Receiver, size: usize, line: u32, bytes: &[u8])
     requires { ⌜ size ≤ 5000 ⌝ }
 {
     let before = paper::store();

@@ -70,7 +70,7 @@ pub fn packet_length(k: u8) -> usize
 }
 
 // The n bytes of packet k, each k, and zeros behind them.
-pub fn packet(k: u8, n: usize) -> [u8; MAX]
+pub(crate) fn packet(k: u8, n: usize) -> [u8; MAX]
     requires { ⌜ n ≤ 500 ⌝ }
     ensures { λ r. ⌜ r ≡ replicate n k ++ replicate (500 - n) 0 ⌝ }
 {
