@@ -1,9 +1,9 @@
--- The choice of a line: it is a line, and at least as good as every other; only one line is.
+-- The choice of a line: it is a line, and at least as good as every other; only one line is. Two choices that cross are the same line.
 -- Assumes nothing.
-use Prim.Native.Nat.{ℕ, zero, suc, _+_, _≤_, _<_}
+use Prim.Native.Nat.{ℕ, zero, suc, _+_, _/_, _≤_, _<_}
 use mathlib.Core.Bool.{Bool, true, false, cond}
 use mathlib.Core.Path.{_≡_, refl}
-use native.Mathlib.Nat.{le-antisymm, le-refl}
+use native.Mathlib.Nat.{le-antisymm, le-trans, le-refl, div-mul-le-self, le-div-iff-mul-le, div-zero}
 use native.Mathlib.Decide.{decLt}
 use native.Mathlib.Omega.{arith}
 use native.Mathlib.Numerals.{add-one}
@@ -76,3 +76,20 @@ module _ (key : ℕ → ℕ) (n : ℕ) where
 pub choose-wins : (p : Plan) → 1 ≤ p .lines → (v : ℕ → ℕ) → Wins (rounds p v) (p .lines) (choose p v)
 unfolding choose
 choose-wins p some v = best-wins (rounds p v) (p .lines) some
+
+-- whole quanta do not fall as the charges rise
+pub div-mono : (q a b : ℕ) → a ≤ b → a / q ≤ b / q
+div-mono zero a b h = rw (div-zero a, div-zero b) (le-refl _)
+div-mono (suc q) a b h = le-div-iff-mul-le {k = suc q} {x = a / suc q} {y = b} (omega arith) .1 (le-trans (div-mul-le-self a (suc q)) h)
+
+-- Where the first positions are no further on the second's choice, and the second no further on the first's, the choices are one line.
+pub cross : (p : Plan) → 1 ≤ p .lines → (v w : ℕ → ℕ) → v (choose p w) ≤ w (choose p w) → w (choose p v) ≤ v (choose p v)
+    → choose p v ≡ choose p w
+cross p some v w f g =
+    let x = choose-wins p some v in
+    let y = choose-wins p some w in
+    let there = x .beats (choose p w) (y .is-below) in
+    let here = y .beats (choose p v) (x .is-below) in
+    let low-there = div-mono (p .quantum (choose p w)) _ _ f in
+    let low-here = div-mono (p .quantum (choose p v)) _ _ g in
+    le-antisymm (there .tie (omega (arith, there .low, here .low))) (here .tie (omega (arith, there .low, here .low)))

@@ -31,6 +31,14 @@ module _ (q x y : ℕ) (some : 1 ≤ q) where
   quotient-rises l h = quotient-is (suc (x / q)) q (x + y) (reaches h) (omega (arith, not-beyond))
 
   module _ (fits : y ≤ q) where
+    -- by one round at most
+    pub one-round-more : (x + y) / q ≤ suc (x / q)
+    one-round-more = go (leb (counterAt q x) y) refl
+      where
+        go : (b : Bool) → leb (counterAt q x) y ≡ b → (x + y) / q ≤ suc (x / q)
+        go true e = omega (arith, quotient-rises fits (leb-true _ _ e))
+        go false e = omega (arith, quotient-stays (leb-false _ _ e))
+
     -- the counter says whether the round rises
     pub rises-where : ltb (x / q + 1) ((x + y) / q + 1) ≡ leb (counterAt q x) y
     rises-where = go (leb (counterAt q x) y) refl

@@ -2,4 +2,15 @@ pub mod Choose
 pub mod Counting
 pub mod Share
 pub mod Forms
+pub mod Lines
+pub mod Carried
+pub mod Invariant
+pub mod Histories
+pub mod Window
+pub mod Lossless
+pub mod Sieve
+pub mod Drain
+pub mod Order
+pub mod Out
+pub mod Examples
 pub mod Proved

@@ -2,7 +2,8 @@
 // and has no code: `promised` carries the theorems as a contract.
 ghost use Rattle.theory.specs.Sending.{Plan};
 ghost use Rattle.theory.specs.Demands.{Sound, Promises};
+ghost use Rattle.theory.specs.FarEnd.{FarEnd};
 
 fn promised()
-    ensures { λ _. ⌜ ((p : Plan) → Sound p → Promises p) ⌝ }
+    ensures { λ _. ⌜ ((p : Plan) → Sound p → Promises p × FarEnd p) ⌝ }
 {}
