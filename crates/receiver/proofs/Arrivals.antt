@@ -1,13 +1,12 @@
 -- The laws of arrivals: an item that is stored once its ring has come back, and each arrival check by check. Assumes nothing.
-use mathlib.Core.Path.{_≡_, refl, ap, sym, _∙_}
+use mathlib.Core.Path.{_≡_, ap, sym, _∙_}
 use Prim.Native.Nat.{ℕ, _+_, _-_, _*_, _≤_, _<_}
 use native.Mathlib.Omega.{arith}
 use mathlib.Core.Bool.{Bool, true, false, cond}
 use mathlib.Core.List.{List}
 use lib.ListN.{length, set}
-use borrow.Author.Tests.{leb-true, le-leb, lt-leb, lt-ltb, le-ltb, eqb-true, ne-eqb}
-use Rattle.numbers.specs.Checks.{inRange}
-use Rattle.plan.specs.Limits.{mostLines, mostStore, itemHead}
+use borrow.Author.Tests.{leb-true, le-leb, lt-leb, lt-ltb, le-ltb, ne-eqb}
+use Rattle.plan.specs.Limits.{mostStore, itemHead}
 use Rattle.plan.specs.Plan.{quantum}
 use Rattle.marker.specs.declared.Marker.{Marker}
 use Rattle.marker.specs.declared.MarkerRead.the-variants.{Whole, Refused}

@@ -85,7 +85,7 @@ holds-after s ok i line es h (c ∷ calls) =
 abbrev answered : Plan → ℕ → Bool → ReceiverOpened
 answered p size t = cond t (record { number = 0; receiver = opened p size }) (record { number = 1; receiver = closed })
 
-is-open : (p : Plan) (size : ℕ) → openOf p size .number ≡ 0 → openOf p size .receiver ≡ opened p size
+pub is-open : (p : Plan) (size : ℕ) → openOf p size .number ≡ 0 → openOf p size .receiver ≡ opened p size
 unfolding openOf
 is-open p size e = go (planOk p && storeOk p size) e
   where

@@ -1,24 +1,22 @@
 -- The laws of a receiver's state: its current line, when it is valid, its opening, and the parts of its store. Assumes nothing.
-use mathlib.Core.Path.{_≡_, refl, ap, sym, _∙_}
-use Prim.Native.Nat.{ℕ, zero, suc, _+_, _-_, _*_, _≤_, _<_}
-use native.Mathlib.Numerals.{add-one}
+use mathlib.Core.Path.{_≡_, refl, ap, _∙_}
+use Prim.Native.Nat.{ℕ, zero, suc, _+_, _*_, _≤_, _<_}
 use native.Mathlib.Nat.{mul-le-mul-right}
 use native.Mathlib.Omega.{arith}
 use mathlib.Core.Bool.{Bool, true, false, _&&_, cond}
 use mathlib.Core.List.{List}
 use lib.Dec.{ltb, leb, eqb}
-use lib.ListN.{length, take, drop, getD, length-take, length-drop}
+use lib.ListN.{length, drop, length-drop}
 use lib.Seq.{length-take-le}
 use borrow.Author.Tests.{ltb-true, lt-ltb, leb-true, le-leb, eqb-true}
 use Rattle.numbers.specs.Checks.{inRange, allBelow}
-use Rattle.numbers.proofs.Checks.{never, both, in-range as is-in-range, from-range, all-at, all}
+use Rattle.numbers.proofs.Checks.{both, in-range as is-in-range, from-range, all-at, all}
 use Rattle.plan.specs.declared.Plan.{Plan}
-use Rattle.plan.specs.Limits.{mostLines, itemHead, mostStore}
+use Rattle.plan.specs.Limits.{itemHead, mostStore}
 use Rattle.plan.specs.Plan.{quantum, planOk, storeOk}
-use Rattle.plan.proofs.Laws.{in-range}
 use Rattle.report.specs.Report.{ahead}
 use Rattle.receiver.specs.declared.Receiver.{Receiver}
-use Rattle.receiver.specs.Receiver.{at, firstFrom, lineAt, currentLine, lineOk, receiverOk, closed, opened, openOf, storeFits, ringOf, withRing}
+use Rattle.receiver.specs.Receiver.{at, firstFrom, lineAt, currentLine, lineOk, receiverOk, closed, opened, openOf, ringOf}
 
 -- ---- the first number of which a test holds
 

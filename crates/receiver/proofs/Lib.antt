@@ -8,6 +8,7 @@ pub mod Runs
 pub mod Stages
 pub mod Storing
 pub mod Dropping
+pub mod Heads
 pub mod Histories
 pub mod Promises
 mod Determined

@@ -10,7 +10,7 @@ use Rattle.receiver.specs.declared.Taken.the-variants.{Waiting, Data, Mi
 use Rattle.receiver.specs.declared.Ended.{Ended}
 use Rattle.receiver.specs.declared.Ended.the-variants as ended
 use Rattle.receiver.specs.declared.TakesResult.{TakesResult}
-use Rattle.receiver.specs.Taking.{TakeOutcome, takeOf}
+use Rattle.receiver.specs.Taking.{takeOf}
 
 -- a take's word: what it was (0 data, 1 missing, 2 behind), 4 times its line, and 64 times the length or the bytes missing
 abbrev pub wordOf : Taken → ℕ

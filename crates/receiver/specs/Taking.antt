@@ -1,6 +1,6 @@
 -- One take: what it answers, and the state and the output as it leaves them.
 use Prim.Native.Nat.{ℕ, _+_, _-_, _%_, _≤_, _<_}
-use mathlib.Core.Bool.{Bool, true, cond}
+use mathlib.Core.Bool.{true, cond}
 use mathlib.Core.List.{List, [], _∷_}
 use mathlib.Core.Path.{_≡_}
 use lib.Dec.{ltb, leb, eqb}
@@ -85,6 +85,7 @@ markerStep p size i l n out (read.Refused k) = stays l (Refused 9) out
 markerStep p size i l n out (read.Whole m) =
     reportStep size i l n (m .round) (m .counter) out (reportOf (quantum p i) (l .round) (l .counter) m)
 
+-- a marker's step by itself: it writes nothing
 abbrev pub markerTaken : Plan → ℕ → ℕ → Line → List ℕ → Step
 markerTaken p size i l b = markerStep p size i l (length b) [] (markerOn i (quantum p i) b) .step
 

@@ -1,11 +1,10 @@
 -- The laws of a marker on a line and of its report, test by test. Callers cite these and not the definitions' text. Assumes nothing.
 use mathlib.Core.Path.{_≡_, refl, ap, sym, _∙_}
-use Prim.Native.Nat.{ℕ, _+_, _-_, _*_, _%_, _^_, _≤_, _<_}
-use native.Mathlib.Nat.{mod-lt}
+use Prim.Native.Nat.{ℕ, _+_, _%_, _^_, _≤_, _<_}
 use native.Mathlib.Omega.{arith}
 use mathlib.Core.Bool.{Bool, true, false, cond}
 use mathlib.Core.List.{List}
-use lib.Dec.{ltb, leb, eqb}
+use lib.Dec.{ltb, eqb}
 use borrow.Author.Tests.{ltb-true, ltb-false, lt-ltb, le-ltb, le-leb, lt-leb, eq-eqb, ne-eqb, eqb-true}
 use Rattle.numbers.specs.Checks.{inRange}
 use Rattle.numbers.proofs.Checks.{from-range}
@@ -15,7 +14,7 @@ use Rattle.marker.specs.declared.MarkerRead.the-variants.{Whole, Refused}
 use Rattle.marker.specs.Marker.{numberOf, recordRead}
 use Rattle.marker.proofs.Laws.{whole-not-refused, record-accepted}
 use Rattle.report.specs.declared.Report.the-variants.{Missing, Behind}
-use Rattle.report.specs.Report.{onNumber, markerChecked, thenChecked, markerOn, ahead, missing, reportOf}
+use Rattle.report.specs.Report.{markerChecked, thenChecked, markerOn, ahead, missing, reportOf}
 
 -- ---- a marker on a line
 

@@ -41,7 +41,7 @@ packets-and p (send other ∷ calls) size e = go (isPacket p other) (packets-and
     go true ih = ap (λ (l : List ℕ). other ∷ l) ih
     go false ih = ih
 
-packets-fit : (p : Plan) (calls : List Call) (n : ℕ) → n < count p calls → isPacket p (lengths p calls n) ≡ true
+pub packets-fit : (p : Plan) (calls : List Call) (n : ℕ) → n < count p calls → isPacket p (lengths p calls n) ≡ true
 unfolding packets
 packets-fit p [] n h = absurd (omega arith)
 packets-fit p (ask i out ∷ calls) n h = packets-fit p calls n h

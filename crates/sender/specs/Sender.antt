@@ -1,8 +1,8 @@
 -- The sender's calls: what each answers and leaves.
-use Prim.Native.Nat.{ℕ, suc, _+_, _-_, _%_, _≤_, _<_}
+use Prim.Native.Nat.{ℕ, suc, _+_, _-_, _≤_, _<_}
 use mathlib.Core.Bool.{Bool, _&&_, cond}
 use mathlib.Core.List.{List, [], _∷_}
-use lib.Dec.{ltb, leb, eqb}
+use lib.Dec.{ltb, eqb}
 use lib.ListN.{getD, set, replicate}
 use Rattle.numbers.specs.Checks.{check, inRange, allBelow}
 use Rattle.numbers.specs.Writing.{Outcome, room, outcome}

@@ -8,7 +8,6 @@ use lib.Dec.{leb, eqb}
 use lib.ListN.{length, take, drop}
 use borrow.Author.Tests.{eq-eqb, ne-eqb}
 use Rattle.numbers.specs.Checks.{inRange}
-use Rattle.plan.specs.declared.Plan.{Plan}
 use Rattle.plan.specs.Limits.{itemHead, mostLines}
 use Rattle.plan.specs.Plan.{quantum}
 use Rattle.plan.proofs.Laws.{in-range}

@@ -1,8 +1,8 @@
 -- `receiver::after_data` meets its contract. Assumes nothing.
 use borrow.Author.Needs.{needs}
 use native.Mathlib.Omega.{arith}
-use mathlib.Core.Path.{_≡_, ap, sym, _∙_}
-use Prim.Native.Nat.{ℕ, _≤_, _<_}
+use mathlib.Core.Path.{_∙_}
+use Prim.Native.Nat.{_≤_, _<_}
 use Rattle.plan.specs.Limits.{mostLines, mostQuantum}
 use Rattle.plan.specs.Plan.{quantum, chargeOf}
 use Rattle.plan.proofs.Laws.{in-range, charge-quantum}

@@ -1,8 +1,7 @@
 -- `receiver::after_marker` meets its contract. Assumes nothing.
 use borrow.Author.Needs.{needs}
 use mathlib.Core.List.{[]}
-use mathlib.Core.Path.{_≡_, ap, sym, _∙_}
-use Prim.Native.Nat.{ℕ}
+use mathlib.Core.Path.{ap, sym, _∙_}
 use Rattle.report.specs.declared.Report.{Report}
 use Rattle.receiver.specs.declared.Line.{Line}
 use Rattle.receiver.specs.declared.Step.{Step}

@@ -1,12 +1,10 @@
 -- `receiver::round_now` meets its contract. Assumes nothing.
 use borrow.Author.Needs.{needs}
 use native.Mathlib.Omega.{arith}
-use mathlib.Core.List.{List}
-use mathlib.Core.Path.{_≡_, ap, sym, _∙_}
-use Prim.Native.Nat.{ℕ, _<_, _≤_}
+use mathlib.Core.Path.{ap, _∙_}
 use Rattle.report.specs.Report.{ahead}
 use Rattle.theory.proofs.Choose.{best-wins}
-use Rattle.receiver.specs.Receiver.{at, lineAt}
+use Rattle.receiver.specs.Receiver.{at}
 use Rattle.receiver.proofs.Taking.{still-at, moved-on}
 use Rattle.receiver.proofs.round_now.Statement.{statement}
 use Rattle.receiver.proofs.round_now.Tie as tie

@@ -3,13 +3,11 @@ use borrow.Author.Needs.{needs}
 use borrow.Author.Tests.{not-true, not-false}
 use native.Mathlib.Omega.{arith}
 use mathlib.Core.Bool.{true, false}
-use mathlib.Core.List.{List, _++_}
 use mathlib.Core.Path.{_≡_, refl, ap, sym, _∙_}
 use Prim.Native.Nat.{ℕ, suc, _+_, _-_, _≤_, _<_}
 use lib.ListN.{length, length-set}
 use Rattle.receiver.specs.declared.Ended.{Ended}
 use Rattle.receiver.specs.Receiver.{receiverOk, storeFits}
-use Rattle.receiver.specs.Taking.{takeOf}
 use Rattle.receiver.specs.Takes.{Run, takesFrom, takesOf, goesOn}
 use Rattle.receiver.proofs.Runs.{run-full, back-length, word-small, bytes-inside, next-valid, next-fits, stops, goes}
 use Rattle.receiver.proofs.run_checked.Statement.{statement}

@@ -1,13 +1,8 @@
 -- `receiver::take_checked` meets its contract. Assumes nothing.
 use borrow.Author.Needs.{needs}
 use native.Mathlib.Omega.{arith}
-use mathlib.Core.Path.{_≡_, ap, sym, _∙_}
-use Prim.Native.Nat.{ℕ, _+_, _*_, _≤_, _<_}
-use lib.ListN.{length}
-use Rattle.plan.proofs.Laws.{in-range}
-use Rattle.receiver.specs.Receiver.{currentLine, ringOf}
-use Rattle.receiver.specs.Taking.{lineOf}
-use Rattle.receiver.proofs.Laws.{Valid, valid}
+use Prim.Native.Nat.{_<_}
+use Rattle.receiver.proofs.Laws.{valid}
 use Rattle.receiver.proofs.Stores.{few-rings, Place, place, lent-is}
 use Rattle.receiver.proofs.Taking.{ready, took}
 use Rattle.receiver.proofs.take_checked.Statement.{statement}

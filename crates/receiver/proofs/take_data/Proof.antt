@@ -7,7 +7,6 @@ use Prim.Native.Nat.{ℕ}
 use lib.ListN.{length}
 use Rattle.ring.specs.Ring.{inFront}
 use Rattle.ring.proofs.Laws.{in-front-length}
-use Rattle.receiver.specs.declared.Step.{Step}
 use Rattle.receiver.specs.declared.Line.{Line}
 use Rattle.receiver.specs.declared.Taken.the-variants.{Data}
 use Rattle.receiver.proofs.Taking.{empty-data, long-data, no-room-out, handed-out}

@@ -1,7 +1,6 @@
 -- `receiver::take_line` meets its contract. Assumes nothing.
 use borrow.Author.Needs.{needs}
 use mathlib.Core.Path.{_≡_, ap, sym, _∙_}
-use Prim.Native.Nat.{ℕ}
 use Rattle.ring.specs.declared.Front.the-variants.{Item}
 use Rattle.ring.specs.Ring.{held, frontOf}
 use Rattle.receiver.specs.Taking.{Stepped}

@@ -3,9 +3,8 @@ use borrow.Author.Needs.{needs}
 use native.Mathlib.Omega.{arith}
 use mathlib.Core.List.{List}
 use mathlib.Core.Path.{_≡_, ap, sym, _∙_, refl}
-use Prim.Native.Nat.{ℕ, _<_, _≤_}
+use Prim.Native.Nat.{ℕ, _≤_}
 use lib.ListN.{length, take, replicate}
-use Rattle.plan.specs.Limits.{mostLines}
 use Rattle.plan.specs.Plan.{quantum}
 use Rattle.plan.proofs.Laws.{in-range}
 use Rattle.report.specs.Report.{markerOn}

@@ -1,10 +1,8 @@
 -- `receiver::with_line` meets its contract. Assumes nothing.
 use borrow.Author.Needs.{needs}
-use native.Mathlib.Omega.{arith}
-use mathlib.Core.Path.{_≡_, ap}
+use mathlib.Core.Path.{ap}
 use Prim.Native.Nat.{ℕ}
 use lib.ListN.{set}
-use Rattle.receiver.specs.declared.Receiver.{Receiver}
 use Rattle.receiver.proofs.with_line.Statement.{statement}
 use Rattle.receiver.proofs.with_line.Tie as tie
 

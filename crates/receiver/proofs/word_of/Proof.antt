@@ -1,8 +1,8 @@
 -- `receiver::word_of` meets its contract. Assumes nothing.
 use borrow.Author.Needs.{needs}
 use native.Mathlib.Omega.{arith}
-use mathlib.Core.Path.{_≡_, ap, sym, _∙_, subst}
-use Prim.Native.Nat.{ℕ, _+_, _*_, _^_, _<_}
+use mathlib.Core.Path.{ap, sym, subst}
+use Prim.Native.Nat.{_+_, _*_, _^_, _<_}
 use Rattle.receiver.specs.declared.Taken.{Taken}
 use Rattle.receiver.specs.Takes.{wordOf}
 use Rattle.receiver.proofs.word_of.Statement.{statement}

@@ -1,6 +1,5 @@
 -- `report::rounds_ahead` meets its contract: the subtraction wraps as the definition's does. Assumes nothing.
 use borrow.Author.Needs.{needs}
-use native.Mathlib.Omega.{arith}
 use Rattle.report.proofs.Laws.{ahead-is}
 use Rattle.report.proofs.rounds_ahead.Statement.{statement}
 use Rattle.report.proofs.rounds_ahead.Tie as tie

@@ -1,9 +1,8 @@
 -- `report::tell` meets its contract. Assumes nothing.
 use borrow.Author.Needs.{needs}
-use native.Mathlib.Omega.{arith}
 use Prim.Native.Nat.{_<_}
 use mathlib.Core.Logic.{⊎-elim}
-use mathlib.Core.Path.{_≡_, refl, ap, sym, _∙_}
+use mathlib.Core.Path.{refl, ap, sym, _∙_}
 use Rattle.report.specs.declared.Report.the-variants.{Missing}
 use Rattle.report.specs.Report.{ahead}
 use Rattle.report.proofs.Laws.{far-behind, counter-behind, same-round, later-round}

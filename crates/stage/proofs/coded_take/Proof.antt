@@ -1,6 +1,6 @@
 -- `stage::coded_take` meets its contract: a take's word has room. Assumes nothing.
 use borrow.Author.Needs.{needs}
-use mathlib.Core.Path.{_≡_, ap, _∙_}
+use mathlib.Core.Path.{_≡_}
 use Prim.Native.Nat.{ℕ}
 use mathlib.Core.List.{List}
 use Rattle.receiver.specs.declared.Receiver.{Receiver}
