@@ -1,0 +1,103 @@
+-- Takes with room, of a world that shows the system's state: each is a step, and as many as items held are the system's own. Assumes nothing.
+use Prim.Native.Nat.{ℕ, zero, suc, _≤_, _<_}
+use native.Mathlib.Nat.{le-refl}
+use native.Mathlib.Omega.{arith}
+use mathlib.Core.Bool.{Bool, true, false, cond}
+use mathlib.Core.List.{List, [], _∷_, _++_, map, append-assoc}
+use mathlib.Core.Path.{_≡_, refl, ap, sym, _∙_, subst}
+use lib.Dec.{leb}
+use lib.ListN.{length, length-map}
+use Rattle.plan.specs.declared.Plan.{Plan}
+use Rattle.plan.specs.Plan.{trimmed}
+use Rattle.theory.specs.Sending as S
+use Rattle.theory.specs.System.{Item, packet, marker, State, Step, take, current}
+use Rattle.theory.specs.System as T
+use Rattle.theory.specs.Words as W
+use Rattle.theory.specs.FarEnd.{front}
+use Rattle.theory.specs.FarEnd as F
+use Rattle.theory.proofs.Histories.{near-split}
+use Rattle.ring.proofs.Promises.{read-back}
+use Rattle.receiver.specs.declared.Taken.the-variants.{Data, Refused}
+use Rattle.receiver.specs.Taking.{takeOf}
+use Rattle.bundle.specs.Worlds.{World, Call, takes, call, calls}
+use Rattle.bundle.specs.Log.{takeStep, logged, log, entryOf}
+use Rattle.bundle.specs.Words.{Opens, Roomy, queue, heldBelow, NoPacket}
+use Rattle.bundle.specs.Demands.{theirs, opened, after, logOf, seen, andThen, Near}
+use Rattle.bundle.proofs.Booth.{kept-good}
+use Rattle.bundle.proofs.Takes.{says, take-says}
+use Rattle.bundle.proofs.Runs.{log-append, after-and, near-and, some, within, not-behind, reaches}
+
+-- a take that has room is a step
+step-says : (out : List ℕ) (i : ℕ) (items : List Item) (x : ℕ) → (says out i items x ≡ Refused 8 → ⊥) → takeStep (says out i items x) ≡ take ∷ []
+step-says out i [] x room = refl
+step-says out i (packet k b ∷ rest) x room = go (leb (length b) (length out)) room
+  where
+    go : (t : Bool) → (cond t (Data i (length b)) (Refused 8) ≡ Refused 8 → ⊥) → takeStep (cond t (Data i (length b)) (Refused 8)) ≡ take ∷ []
+    go true room = refl
+    go false room = absurd (room refl)
+step-says out i (marker k m ∷ rest) x room = refl
+
+-- a queue without packets, as the ring holds it
+pub none-queued : (p : Plan) (i : ℕ) (items : List Item) → W.NoPacket items → NoPacket (map (entryOf p i) items)
+none-queued p i [] none = tt
+none-queued p i (packet k x ∷ rest) none = absurd none
+none-queued p i (marker k m ∷ rest) none = (λ e. omega arith, none-queued p i rest none)
+
+module _ (p : Plan) (size : ℕ) (store : List ℕ) (o : Opens p size store) where
+  abbrev plan : S.Plan
+  plan = theirs p size store
+
+  abbrev world : List Call → World
+  world h = after p size store h
+
+  abbrev state : List Call → State
+  state h = seen p size store h
+
+  -- what the next take answers
+  pub answers : (h : List Call) (out : List ℕ) → Near p size store (andThen p size store h (takes out))
+      → takeOf (world h .receiver) (world h .store) out .result .answer
+      ≡ says out (current plan (state h)) (front plan (state h) .store) (front plan (state h) .position)
+  answers h out near =
+      let n = near-and p size store o h (takes out) near in
+      take-says (trimmed p) (kept-good p size store o) (some p size store o) (world h) (state h) (reaches p size store o h (n .0) .meets)
+      (within p size store o h (n .0)) (not-behind p size store o h) out (n .1)
+
+  -- the first call of some that are near
+  near-first : (h : List Call) (e : Call) (g : List Call) → Near p size store (h ++ (e ∷ g)) → Near p size store (andThen p size store h e)
+  near-first h e g near =
+      let same : andThen p size store h e ++ g ≡ h ++ (e ∷ g) = append-assoc h (e ∷ []) g in
+      near-split plan (logOf p size store (andThen p size store h e)) (log (world (andThen p size store h e)) g) T.opened
+      (subst (F.Near plan T.opened) (log-append (andThen p size store h e) g (opened p size store)) (rw same near)) .0
+
+  takes-log : (outs : List (List ℕ)) (h : List Call) → Near p size store (h ++ map takes outs) → Roomy (world h) outs
+      → log (world h) (map takes outs) ≡ W.takes (length outs)
+  takes-log [] h near room = refl
+  takes-log (out ∷ outs) h near room =
+      let e = answers h out (near-first h (takes out) (map takes outs) near) in
+      let first : logged (world h) (takes out) ≡ take ∷ [] =
+      ap takeStep e ∙ step-says out (current plan (state h)) (front plan (state h) .store) (front plan (state h) .position) (λ q. room .0 (e ∙ q)) in
+      let on : calls (opened p size store) (andThen p size store h (takes out)) ≡ call (world h) (takes out) = after-and p size store o h (takes out) in
+      let near' : Near p size store (andThen p size store h (takes out) ++ map takes outs) = rw (append-assoc h (takes out ∷ []) (map takes outs)) near in
+      let rest = takes-log outs (andThen p size store h (takes out)) near' (subst (λ (w : World). Roomy w outs) (sym on) (room .1)) in
+      ap (λ (l : List Step). l ++ log (call (world h) (takes out)) (map takes outs)) first
+      ∙ ap (λ (l : List Step). take ∷ l) (subst (λ (w : World). log w (map takes outs) ≡ W.takes (length outs)) on rest)
+
+  -- the queues, and the items held
+  pub queued : (h : List Call) → Near p size store h → (i : ℕ) → i < p .lines → queue (world h) i ≡ map (entryOf (trimmed p) i) (state h .line i .store)
+  queued h near i line = read-back _ _ _ _ (reaches p size store o h near .meets .far .holds i line)
+
+  held-below : (h : List Call) → Near p size store h → (n : ℕ) → n ≤ p .lines → heldBelow (world h) n ≡ W.heldBelow (state h .line) n
+  held-below h near zero few = refl
+  held-below h near (suc n) few =
+      let one : length (queue (world h) n) ≡ length (state h .line n .store) = ap length (queued h near n few) ∙ length-map (state h .line n .store) (entryOf (trimmed p) n) in
+      omega (arith, held-below h near n (omega arith), one)
+
+  -- as many takes with room as items held
+  pub drained : (h : List Call) (outs : List (List ℕ)) → length outs ≡ heldBelow (world h) (p .lines) → Roomy (world h) outs → Near p size store (h ++ map takes outs)
+      → logOf p size store (h ++ map takes outs) ≡ logOf p size store h ++ W.takes (W.heldBelow (state h .line) (p .lines))
+  drained h outs many room near =
+      let before = near-split plan (logOf p size store h) (log (world h) (map takes outs)) T.opened
+      (subst (F.Near plan T.opened) (log-append h (map takes outs) (opened p size store)) near) .0 in
+      log-append h (map takes outs) (opened p size store)
+      ∙ ap (λ (l : List Step). logOf p size store h ++ l) (takes-log outs h near room)
+      ∙ ap (λ (n : ℕ). logOf p size store h ++ W.takes n) (many ∙ held-below h before (p .lines) (le-refl (p .lines)))

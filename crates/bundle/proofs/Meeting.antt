@@ -1,0 +1,50 @@
+-- What a world shows of the system's state: the far end its positions and queues, the roads what is under way. (The sender's part is the sender's
+-- own promise.) Assumes nothing.
+use Prim.Native.Nat.{ℕ, _≤_, _<_}
+use mathlib.Core.List.{List, [], _∷_, map}
+use mathlib.Core.Path.{_≡_}
+use lib.ListN.{length}
+use Rattle.plan.specs.declared.Plan.{Plan}
+use Rattle.plan.specs.Limits.{mostLines}
+use Rattle.plan.specs.Plan.{quantum}
+use Rattle.theory.specs.Sending.{choose, roundAt, counterAt}
+use Rattle.theory.specs.Sending as S
+use Rattle.theory.specs.System.{Item, packet, marker, State, positions}
+use Rattle.sender.specs.History.{inTheory}
+use Rattle.receiver.specs.Receiver.{at}
+use Rattle.receiver.specs.History.{Stage, stage}
+use Rattle.receiver.proofs.Stages.{Sound, HoldsOn}
+use Rattle.bundle.specs.Worlds.{World}
+use Rattle.bundle.specs.Log.{parcelOf, entryOf}
+
+module _ (p : Plan) where
+  abbrev pub theirs : S.Plan
+  theirs = inTheory p
+
+  -- packets of a length in range
+  abbrev pub Fits : Item → Type 0
+  Fits (packet k x) = (1 ≤ length x) × (length x ≤ p .max)
+  Fits (marker k m) = Unit {0}
+
+  abbrev pub AllFit : List Item → Type 0
+  AllFit [] = Unit {0}
+  AllFit (x ∷ rest) = Fits x × AllFit rest
+
+  -- a stage at positions v, that holds these items
+  pub record Shows (s : Stage) (v : ℕ → ℕ) (items : ℕ → List Item) : Type 0 where
+    pub plan : s .receiver .plan ≡ p
+    pub sound : Sound s
+    pub rounds-length : length (s .receiver .rounds) ≡ mostLines
+    pub counters-length : length (s .receiver .counters) ≡ mostLines
+    pub round : s .receiver .round ≡ roundAt (quantum p (choose theirs v)) (v (choose theirs v))
+    pub rounds : (i : ℕ) → i < p .lines → at (s .receiver .rounds) i ≡ roundAt (quantum p i) (v i)
+    pub counters : (i : ℕ) → i < p .lines → at (s .receiver .counters) i ≡ counterAt (quantum p i) (v i)
+    pub holds : (i : ℕ) → i < p .lines → HoldsOn i s (map (entryOf p i) (items i))
+    pub fit : (i : ℕ) → i < p .lines → AllFit (items i)
+
+  pub record Meets (w : World) (s : State) : Type 0 where
+    pub far : Shows (stage (w .receiver) (w .store)) (positions s) (λ i. s .line i .store)
+    pub roads : (i : ℕ) → w .road i ≡ map (parcelOf p i) (s .line i .road)
+    -- only lines of the plan have parcels under way, packets in range
+    pub on-road : (i : ℕ) → AllFit (s .line i .road)
+    pub off-road : (i : ℕ) → p .lines ≤ i → s .line i .road ≡ []

@@ -1,0 +1,115 @@
+-- A run of takes is takes, one behind another. Assumes nothing.
+use Prim.Native.Nat.{ℕ, zero, suc, _+_, _≤_, _<_}
+use native.Mathlib.Nat.{add-zero}
+use native.Mathlib.Omega.{arith}
+use mathlib.Core.Bool.{Bool, true, false, cond}
+use mathlib.Core.List.{List, [], _∷_, _++_, map, append-nil, append-assoc}
+use mathlib.Core.Logic.{_⊎_, inl, inr}
+use mathlib.Core.Path.{_≡_, refl, ap, sym, _∙_}
+use lib.ListN.{length, take, drop, set, length-append, length-set}
+use lib.Seq.{length-take-le, take-append-add, take-suc-set}
+use Rattle.receiver.specs.declared.Ended.{Ended}
+use Rattle.receiver.specs.declared.Taken.{Taken}
+use Rattle.receiver.specs.declared.Taken.the-variants.{Waiting, Data, Missing, Behind, Refused}
+use Rattle.receiver.specs.Taking.{takeOf}
+use Rattle.receiver.specs.Takes.{wordOf, bytesOf, endOf, goesOn, Run, stopped, takesFrom, takesOf}
+use Rattle.receiver.proofs.Valid.{out-length, bytes-fit}
+use Rattle.bundle.specs.Worlds.{World, takes, call, calls, handedBy, handedIn}
+use Rattle.bundle.specs.Running.{joined, answersIn, RunIsTakes}
+
+-- the packet of a take, if there is one, is the bytes that it has written
+joined-by : (t : Taken) (out : List ℕ) (rest : List (List ℕ)) → joined (handedBy t out ++ rest) ≡ take (bytesOf t) out ++ joined rest
+joined-by (Waiting i) out rest = refl
+joined-by (Data i n) out rest = refl
+joined-by (Missing i m) out rest = refl
+joined-by (Behind i) out rest = refl
+joined-by (Refused k) out rest = refl
+
+-- takes that lead to the end of a run, behind k that have written the first `at` bytes of the output: what those have left stays in front
+record Ends (w : World) (k at : ℕ) (out log : List ℕ) (run : Run) : Type 0 where
+  outs : List (List ℕ)
+  count : k + length outs ≡ run .result .taken
+  world : calls w (map takes outs) .receiver ≡ run .result .next
+  bytes : take at out ++ joined (handedIn w (map takes outs)) ≡ take (run .result .bytes) (run .out)
+  words : take k log ++ map wordOf (answersIn w outs) ≡ take (run .result .taken) (run .log)
+  stops :
+      (run .result .taken ≡ length log)
+      ⊎ (goesOn (takeOf (run .result .next) (w .store) (drop (run .result .bytes) (run .out)) .result .answer) ≡ false)
+
+module _ (w : World) (k at : ℕ) (out log : List ℕ) where
+  -- the next take, into what is left of the output
+  abbrev left : List ℕ
+  left = drop at out
+
+  abbrev next : World
+  next = call w (takes left)
+
+  abbrev answer : Taken
+  answer = takeOf (w .receiver) (w .store) left .result .answer
+
+  abbrev part : List ℕ
+  part = takeOf (w .receiver) (w .store) left .out
+
+  -- a run ends where the log is full, or that take would wait or be refused
+  ends : (end : Ended) → (k ≡ length log) ⊎ (goesOn answer ≡ false) → Ends w k at out log (stopped end (w .receiver) k at out log)
+  ends end why = record {
+    outs = [];
+    count = add-zero k;
+    world = refl;
+    bytes = append-nil (take at out);
+    words = append-nil (take k log);
+    stops = why;
+  }
+
+  module _ (inside : at ≤ length out) where
+    front : length (take at out) ≡ at
+    front = length-take-le at out inside
+
+    bytes-inside : at + bytesOf answer ≤ length (take at out ++ part)
+    bytes-inside =
+        omega (arith, length-append (take at out) part, front, out-length (w .receiver) (w .store) left, bytes-fit (w .receiver) (w .store) left)
+
+    bytes-front : take (at + bytesOf answer) (take at out ++ part) ≡ take at out ++ take (bytesOf answer) part
+    bytes-front = ap (λ (n : ℕ). take (n + bytesOf answer) (take at out ++ part)) (sym front) ∙ take-append-add (take at out) part (bytesOf answer)
+
+    -- it, and those behind it
+    goes : k < length log → (run : Run) → Ends next (suc k) (at + bytesOf answer) (take at out ++ part) (set log k (wordOf answer)) run
+        → Ends w k at out log run
+    goes room run rest =
+        let handed = joined (handedIn next (map takes (rest .outs))) in
+        let told = map wordOf (answersIn next (rest .outs)) in
+        record {
+          outs = left ∷ rest .outs;
+          count = omega (arith, rest .count);
+          world = rest .world;
+          bytes =
+              ap (λ (l : List ℕ). take at out ++ l) (joined-by answer part (handedIn next (map takes (rest .outs))))
+              ∙ sym (append-assoc (take at out) (take (bytesOf answer) part) handed)
+              ∙ ap (λ (l : List ℕ). l ++ handed) (sym bytes-front)
+              ∙ rest .bytes;
+          words =
+              sym (append-assoc (take k log) (wordOf answer ∷ []) told)
+              ∙ ap (λ (l : List ℕ). l ++ told) (sym (take-suc-set log k (wordOf answer) room))
+              ∙ rest .words;
+          stops = rw (← length-set log k (wordOf answer)) (rest .stops);
+        }
+
+from : (n : ℕ) (w : World) (k at : ℕ) (out log : List ℕ) → at ≤ length out → k + n ≡ length log
+    → Ends w k at out log (takesFrom n (w .store) (w .receiver) k at out log)
+unfolding takesFrom
+from zero w k at out log inside full = ends w k at out log _ (inl (omega arith))
+from (suc n) w k at out log inside full =
+    let word = wordOf (answer w k at out log) in
+    let rest = from n (next w k at out log) (suc k) _ _ (set log k word) (bytes-inside w k at out log inside) (omega (arith, length-set log k word)) in
+    go (endOf (answer w k at out log)) (goesOn (answer w k at out log)) refl (goes w k at out log inside (omega arith) _ rest)
+  where
+    go : (end : Ended) (t : Bool) → goesOn (answer w k at out log) ≡ t → {on : Run} → Ends w k at out log on
+        → Ends w k at out log (cond t on (stopped end (w .receiver) k at out log))
+    go end true e on = on
+    go end false e on = ends w k at out log end (inr e)
+
+pub run-is-takes : RunIsTakes
+unfolding takesOf
+run-is-takes w out log =
+    let e = from (length log) w 0 0 out log (omega arith) (omega arith) in
+    record { outs = e .outs; count = omega (arith, e .count); world = e .world; bytes = e .bytes; words = e .words; stops = e .stops }

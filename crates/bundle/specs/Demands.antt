@@ -1,0 +1,174 @@
+-- The demands, of histories of calls.
+use Prim.Native.Nat.{ℕ, _+_, _-_, _*_, _≤_, _<_}
+use mathlib.Core.Bool.{true}
+use mathlib.Core.List.{List, [], _∷_, _++_, map}
+use mathlib.Core.Path.{_≡_}
+use lib.ListN.{length}
+use Rattle.numbers.specs.declared.Written.the-variants as written
+use Rattle.plan.specs.declared.Plan.{Plan}
+use Rattle.plan.specs.Limits.{itemHead}
+use Rattle.plan.specs.Plan.{quantum, chargeOf, trimmed}
+use Rattle.theory.specs.Sending.{ends, ended, dueAfter}
+use Rattle.theory.specs.Sending as S
+use Rattle.theory.specs.Demands.{Lowest}
+use Rattle.theory.specs.System as T
+use Rattle.theory.specs.Words.{Beginning, total, before, Yielded, NoneBehind, HasMarker, toCome}
+use Rattle.theory.specs.FarEnd as F
+use Rattle.sender.specs.declared.Sent.the-variants as sent
+use Rattle.sender.specs.Sender.{senderOk, sendOf, markerOn, markerFrom}
+use Rattle.sender.specs.History.{inTheory}
+use Rattle.receiver.specs.declared.Taken.the-variants as taken
+use Rattle.receiver.specs.Receiver.{at, receiverOk}
+use Rattle.receiver.specs.Taking.{takeOf}
+use Rattle.bundle.specs.Worlds.{Parcel, World, Call, sends, takes, start, landing, calls, sentIn, handedIn, reportedIn}
+use Rattle.bundle.specs.Words.{Names, Roomy, queue, heldBelow, NoPacket, bytesOf}
+use Rattle.bundle.specs.Log.{log, parcelOf, entryOf}
+
+module _ (p : Plan) (size : ℕ) (store : List ℕ) where
+  -- the plan as both ends keep it: zeros from line N on
+  abbrev pub kept : Plan
+  kept = trimmed p
+
+  abbrev pub theirs : S.Plan
+  theirs = inTheory kept
+
+  -- the world after a history, and the system's state after its log
+  abbrev pub opened : World
+  opened = start p size store
+
+  abbrev pub after : List Call → World
+  after h = calls opened h
+
+  abbrev pub logOf : List Call → List T.Step
+  logOf h = log opened h
+
+  abbrev pub seen : List Call → T.State
+  seen h = F.after theirs (logOf h)
+
+  -- the packets sent, and by them what each line has carried and how many full rounds have ended
+  abbrev pub sentOf : List Call → List (List ℕ)
+  sentOf h = sentIn opened h
+
+  abbrev pub carried : List Call → ℕ → ℕ
+  carried h = S.carried theirs (T.sizes (sentOf h)) (length (sentOf h))
+
+  abbrev pub endedBy : List Call → ℕ
+  endedBy h = ended theirs (T.sizes (sentOf h)) (length (sentOf h))
+
+  abbrev pub andThen : List Call → Call → List Call
+  andThen h e = h ++ (e ∷ [])
+
+  -- each marker, when taken, is fewer than 2^31 rounds ahead of its line
+  abbrev pub Near : List Call → Type 0
+  Near h = F.Near theirs T.opened (logOf h)
+
+  -- nothing lost: on no line, on its way or refused where it arrived; nothing under way
+  abbrev pub NothingLost : List Call → Type 0
+  NothingLost h = F.NothingLost theirs (seen h)
+
+  abbrev pub NothingUnderWay : List Call → Type 0
+  NothingUnderWay h = (i : ℕ) → i < p .lines → after h .road i ≡ []
+
+  -- The log is of this world: what it says was sent and handed out was; what it has under way and queued is what roads and rings hold.
+  pub record Shown (h : List Call) : Type 0 where
+    pub sent : sentOf h ≡ T.packets (logOf h)
+    pub handed : handedIn opened h ≡ F.bytesOf (T.outs theirs T.opened (logOf h))
+    pub road : (i : ℕ) → after h .road i ≡ map (parcelOf kept i) (seen h .line i .road)
+    pub queued : (i : ℕ) → i < p .lines → queue (after h) i ≡ map (entryOf kept i) (seen h .line i .store)
+
+  abbrev pub LogShown : Type 0
+  LogShown = (h : List Call) → Near h → Shown h
+
+  -- a packet is charged its length: charges are bytes
+  abbrev pub ChargedBytes : Type 0
+  ChargedBytes = (i n : ℕ) → theirs .charge i n ≡ n
+
+  -- ---- demand 2, the booth
+
+  -- A packet in range is sent, to the line of lowest round by what the lines have carried, lower number on a tie; and markers are due exactly when
+  -- it ends a full round whose number is a multiple of the interval.
+  abbrev pub Rule : Type 0
+  Rule =
+      (h : List Call) (x : List ℕ) → 1 ≤ length x → length x ≤ p .max
+      → (i : ℕ) × Lowest theirs (carried h) i
+      × (sendOf (after h .sender) (length x) .answer ≡ sent.Went i (dueAfter theirs (T.sizes (sentOf (andThen h (sends x)))) (length (sentOf h))))
+
+  -- A send that ends the k-th full round leaves on every line at least k quanta, and less than k quanta plus one largest packet.
+  abbrev pub Share : Type 0
+  Share =
+      (h : List Call) (x : List ℕ) → 1 ≤ length x → length x ≤ p .max → ends theirs (carried h) (length x) ≡ true → (i : ℕ) → i < p .lines
+      → (endedBy (andThen h (sends x)) * quantum p i ≤ carried (andThen h (sends x)) i)
+      × (carried (andThen h (sends x)) i < endedBy (andThen h (sends x)) * quantum p i + chargeOf kept i (p .max))
+
+  -- ---- demand 2, the stage
+
+  -- It takes lines by the same rule, on the positions that markers and packets have given it. No take answers 11, and none is refused but with 8.
+  abbrev pub SameRule : Type 0
+  SameRule =
+      (h : List Call) (out : List ℕ) → Near (andThen h (takes out))
+      → (i : ℕ) × Lowest theirs (T.positions (seen h)) i × Names i (takeOf (after h .receiver) (after h .store) out .result .answer)
+
+  -- Nothing lost: what is handed out is a beginning of what was sent,
+  abbrev pub InOrder : Type 0
+  InOrder = (h : List Call) → NothingLost h → Beginning (handedIn opened h) (sentOf h)
+
+  -- and once nothing is under way, as many takes with room as items held hand out the rest.
+  abbrev pub AllOut : Type 0
+  AllOut =
+      (h : List Call) → NothingLost h → NothingUnderWay h → (outs : List (List ℕ)) → length outs ≡ heldBelow (after h) (p .lines) → Roomy (after h) outs
+      → handedIn opened (h ++ map takes outs) ≡ sentOf h
+
+  -- ---- demand 3
+
+  -- A taken marker, labelled k: what it reports, and what was reported before on its line, are the bytes of the packets lost on the line before it.
+  abbrev pub Reports : Type 0
+  Reports =
+      (h : List Call) (out : List ℕ) (i m : ℕ) → Near (andThen h (takes out)) → takeOf (after h .receiver) (after h .store) out .result .answer ≡ taken.Missing i m
+      → (k position : ℕ) × (rest : List T.Item) × (seen h .line i .store ≡ T.marker k position ∷ rest)
+      × (m + reportedIn i opened h ≡ total (before theirs i k) (seen h .line i .lost))
+
+  -- Calls h₁ up to some moment, h₂ from there on. In h₁ each line i has yielded a marker, labelled c i, behind which no packet is lost: what is
+  -- handed out in h₂ is, in sent order without gaps, a beginning of the packets sent behind those markers and still to come.
+  abbrev pub Order : Type 0
+  Order =
+      (h₁ h₂ : List Call) (c : ℕ → ℕ) → Near (h₁ ++ h₂)
+      → ((i : ℕ) → i < p .lines → Yielded (c i) (seen h₁ .line i .taken))
+      → ((i : ℕ) → i < p .lines → NoneBehind (c i) (seen (h₁ ++ h₂) .line i .lost))
+      → Beginning (handedIn (after h₁) h₂) (F.bytesOf (toCome theirs (T.nth (sentOf (h₁ ++ h₂))) c (seen h₁) (length (sentOf (h₁ ++ h₂)))))
+
+  -- With a marker sent after the last packet stored on every line, as many takes with room as items held leave no packet queued.
+  abbrev pub Cleared : Type 0
+  Cleared =
+      (h : List Call) → ((i : ℕ) → i < p .lines → HasMarker (seen h .sent) (seen h .line i .store))
+      → (outs : List (List ℕ)) → length outs ≡ heldBelow (after h) (p .lines) → Roomy (after h) outs → Near (h ++ map takes outs)
+      → (i : ℕ) → i < p .lines → NoPacket (queue (after (h ++ map takes outs)) i)
+
+  -- ---- demand 1, from the opening on
+
+  abbrev pub Valid : Type 0
+  Valid = (h : List Call) → (senderOk (after h .sender) ≡ true) × (receiverOk (after h .receiver) ≡ true)
+
+  -- Nothing is refused but for cause (for a packet to be sent: `Rule`): a marker with room is written, a parcel put on a line is stored where its
+  -- ring has room, and a take with room for the largest packet is not refused. (Without this an end that refuses everything would pass.)
+  pub record OnlyForCause : Type 0 where
+    pub ask : (h : List Call) (i : ℕ) (out : List ℕ) → i < p .lines → length (markerOn (after h .sender) i) ≤ length out
+        → markerFrom (after h .sender) i out .answer ≡ written.Length (length (markerOn (after h .sender) i))
+    pub land : (h : List Call) → Near h → (i : ℕ) (x : Parcel) (rest : List Parcel) → after h .road i ≡ x ∷ rest
+        → itemHead + length (bytesOf x) ≤ size - at (after h .receiver .used) i → landing (after h .receiver) (after h .store) i x .arrived .number ≡ 0
+    pub take : (h : List Call) (out : List ℕ) → Near (andThen h (takes out)) → p .max ≤ length out → (k : ℕ)
+        → takeOf (after h .receiver) (after h .store) out .result .answer ≡ taken.Refused k → ⊥
+
+-- what is promised of both ends, once opened
+pub record Promises (p : Plan) (size : ℕ) (store : List ℕ) : Type 0 where
+  pub log-shown : LogShown p size store
+  pub charged-bytes : ChargedBytes p size store
+  pub rule : Rule p size store
+  pub share : Share p size store
+  pub same-rule : SameRule p size store
+  pub in-order : InOrder p size store
+  pub all-out : AllOut p size store
+  pub reports : Reports p size store
+  pub order : Order p size store
+  pub cleared : Cleared p size store
+  pub valid : Valid p size store
+  pub only-for-cause : OnlyForCause p size store

@@ -1,0 +1,37 @@
+-- A run of takes is takes, one behind another.
+use Prim.Native.Nat.{ℕ}
+use mathlib.Core.Bool.{false}
+use mathlib.Core.List.{List, [], _∷_, _++_, map}
+use mathlib.Core.Logic.{_⊎_}
+use mathlib.Core.Path.{_≡_}
+use lib.ListN.{length, take, drop}
+use Rattle.receiver.specs.declared.Taken.{Taken}
+use Rattle.receiver.specs.Taking.{takeOf}
+use Rattle.receiver.specs.Takes.{wordOf, goesOn, Run, takesOf}
+use Rattle.bundle.specs.Worlds.{World, takes, call, calls, handedIn}
+
+-- bytes one behind another
+abbrev pub joined : List (List ℕ) → List ℕ
+joined [] = []
+joined (x ∷ rest) = x ++ joined rest
+
+-- what takes into these outputs answer
+abbrev pub answersIn : World → List (List ℕ) → List Taken
+answersIn w [] = []
+answersIn w (out ∷ outs) = takeOf (w .receiver) (w .store) out .result .answer ∷ answersIn (call w (takes out)) outs
+
+-- From any world, with any output and log: there are as many takes as the run counts, which leave the receiver as the run does; their packets
+-- lie one behind another at the front of the run's output, and their words at the front of its log. The log is full then, or the next take
+-- would wait or be refused.
+pub record Runs (w : World) (log : List ℕ) (run : Run) : Type 0 where
+  pub outs : List (List ℕ)
+  pub count : length outs ≡ run .result .taken
+  pub world : calls w (map takes outs) .receiver ≡ run .result .next
+  pub bytes : joined (handedIn w (map takes outs)) ≡ take (run .result .bytes) (run .out)
+  pub words : map wordOf (answersIn w outs) ≡ take (run .result .taken) (run .log)
+  pub stops :
+      (run .result .taken ≡ length log)
+      ⊎ (goesOn (takeOf (run .result .next) (w .store) (drop (run .result .bytes) (run .out)) .result .answer) ≡ false)
+
+abbrev pub RunIsTakes : Type 0
+RunIsTakes = (w : World) (out log : List ℕ) → Runs w log (takesOf (w .receiver) (w .store) out log)

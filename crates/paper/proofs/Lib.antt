@@ -1,0 +1,4 @@
+pub mod Examples
+mod Tests
+pub mod Premises
+pub mod Wrong

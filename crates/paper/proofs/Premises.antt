@@ -1,0 +1,209 @@
+-- Every premise of the promises is met on the session on paper, by computation: none of them speaks of nothing. Assumes nothing.
+use Prim.Native.Nat.{ℕ, _+_, _-_, _≤_, _<_}
+use mathlib.Core.Bool.{Bool, true, cond}
+use mathlib.Core.List.{List, [], _∷_, _++_, map}
+use mathlib.Core.Logic.{inl, inr}
+use mathlib.Core.Path.{_≡_, refl}
+use lib.Dec.{eqb}
+use lib.ListN.{length, replicate, take, drop}
+use borrow.Author.Tests.{ltb-true, leb-true}
+use Rattle.numbers.specs.declared.Written.the-variants as written
+use Rattle.numbers.specs.Checks.{allBelow}
+use Rattle.numbers.specs.Coding.{reading, readingOf, coded, rowBytes}
+use Rattle.numbers.specs.Writing.{outcome}
+use Rattle.plan.specs.Limits.{itemHead}
+use Rattle.plan.specs.Plan.{planOk, storeOk, chargeOf}
+use Rattle.marker.specs.Marker.{recordRead}
+use Rattle.theory.specs.Sending.{better, best, choose, charged, ends}
+use Rattle.theory.specs.Sending as S
+use Rattle.theory.specs.System.{State}
+use Rattle.theory.specs.System as T
+use Rattle.theory.specs.Words.{Yielded, NoneBehind, HasMarker, toCome}
+use Rattle.theory.specs.FarEnd as F
+use Rattle.report.specs.Report.{markerOn, markerChecked, ahead, reportOf}
+use Rattle.sender.specs.declared.Sent.the-variants as sent
+use Rattle.sender.specs.Sender.{senderOk, nextSender, sendNumber, sendOf, markerFrom}
+use Rattle.sender.specs.Sender as sender
+use Rattle.ring.specs.Ring.{fromRing, intoRing, held, stored, frontOf}
+use Rattle.ring.specs.Queue.{Entry, itemsIn, queue}
+use Rattle.receiver.specs.declared.Taken.{Taken}
+use Rattle.receiver.specs.declared.Taken.the-variants as taken
+use Rattle.receiver.specs.Receiver.{at, firstFrom, lineAt, receiverOk, ringOf, withRing}
+use Rattle.receiver.specs.Receiver as receiver
+use Rattle.receiver.specs.Arriving.{arrival, dataArrival, markerArrival}
+use Rattle.receiver.specs.Taking.{lineStep, itemStep, roundNow, takeOf}
+use Rattle.bundle.specs.Worlds.{packet, World, Call, takes, landing, handedIn, reportedIn}
+use Rattle.bundle.specs.Words.{Opens, bytesOf}
+use Rattle.bundle.specs.Demands as D
+use Rattle.bundle.specs.Words as words
+use Rattle.paper.proofs.Tests.{Enough, enoughTest, enough, stepsOf, Plain, beginning, nearTest, near, of-seen, on-lines, on-both}
+use Rattle.paper.specs.Session.{session, numbered, room, someTakes, size, bytes, opened, calm, lossy, lossier, closing}
+
+-- ---- the words of the demands, of the session; and how they follow from what computes
+
+abbrev after : List Call → World
+after h = D.after session size bytes h
+
+abbrev theirs : S.Plan
+theirs = D.theirs session size bytes
+
+abbrev seen : List Call → State
+seen h = D.seen session size bytes h
+
+abbrev Near : List Call → Type 0
+Near h = D.Near session size bytes h
+
+-- the system's state after the calls' own steps
+abbrev state : List Call → State
+state h = F.after theirs (stepsOf h)
+
+abbrev nearly : List Call → Bool
+nearly h = nearTest theirs T.opened (stepsOf h)
+
+-- of `Reports`: after h a take answers that 500 bytes are missing on line 0, on which nothing was reported before
+abbrev answerIn : World → Taken
+answerIn w = takeOf (w .receiver) (w .store) room .result .answer
+
+abbrev Finds : List Call → Type 0
+Finds h = Near (h ++ (takes room ∷ [])) × (answerIn (after h) ≡ taken.Missing 0 500) × (reportedIn 0 opened h ≡ 0)
+
+-- of `Order`, with line i's marker labelled c i; and what h₂ hands out is all that was to come
+abbrev dueIn : List (List ℕ) → (ℕ → ℕ) → State → List (List ℕ)
+dueIn sent c s = F.bytesOf (toCome theirs (T.nth sent) c s (length sent))
+
+abbrev Orders : List Call → List Call → (ℕ → ℕ) → List (List ℕ) → Type 0
+Orders h₁ h₂ c handed =
+    Near (h₁ ++ h₂) × ((i : ℕ) → i < session .lines → Yielded (c i) (seen h₁ .line i .taken))
+    × ((i : ℕ) → i < session .lines → NoneBehind (c i) (seen (h₁ ++ h₂) .line i .lost)) × (handedIn (after h₁) h₂ ≡ handed)
+    × (dueIn (D.sentOf session size bytes (h₁ ++ h₂)) c (seen h₁) ≡ handed)
+
+module _ (h₁ h₂ : List Call) (c : ℕ → ℕ) (handed : List (List ℕ)) (plain : Plain opened (h₁ ++ h₂)) where
+  orders : nearly (h₁ ++ h₂) ≡ true → Yielded (c 0) (state h₁ .line 0 .taken) → Yielded (c 1) (state h₁ .line 1 .taken)
+      → NoneBehind (c 0) (state (h₁ ++ h₂) .line 0 .lost) → NoneBehind (c 1) (state (h₁ ++ h₂) .line 1 .lost)
+      → handedIn (after h₁) h₂ ≡ handed → dueIn (D.sentOf session size bytes (h₁ ++ h₂)) c (state h₁) ≡ handed → Orders h₁ h₂ c handed
+  orders passed yielded₀ yielded₁ behind₀ behind₁ out due =
+      let first : Plain opened h₁ = beginning h₁ h₂ opened plain in (
+        near session size bytes (h₁ ++ h₂) plain passed,
+        on-lines session size bytes h₁ first (λ s i. Yielded (c i) (s .line i .taken)) yielded₀ yielded₁,
+        on-lines session size bytes (h₁ ++ h₂) plain (λ s i. NoneBehind (c i) (s .line i .lost)) behind₀ behind₁,
+        out,
+        of-seen session size bytes h₁ first (λ s. dueIn (D.sentOf session size bytes (h₁ ++ h₂)) c s ≡ handed) due,
+      )
+
+-- of `Cleared`; and after the takes these kinds of item are queued on the two lines
+abbrev kinds : World → List (List ℕ)
+kinds w = map (λ (e : Entry). e .kind) (words.queue w 0) ∷ map (λ (e : Entry). e .kind) (words.queue w 1) ∷ []
+
+abbrev Clears : List Call → List (List ℕ) → List (List ℕ) → Type 0
+Clears h outs queued =
+    ((i : ℕ) → i < session .lines → HasMarker (seen h .sent) (seen h .line i .store))
+    × Enough 2 (after h) outs × Near (h ++ map takes outs) × (kinds (after (h ++ map takes outs)) ≡ queued)
+
+module _ (h : List Call) (outs queued : List (List ℕ)) (plain : Plain opened (h ++ map takes outs)) where
+  clears : HasMarker (state h .sent) (state h .line 0 .store) → HasMarker (state h .sent) (state h .line 1 .store)
+      → enoughTest 2 (after h) outs ≡ true → nearly (h ++ map takes outs) ≡ true → kinds (after (h ++ map takes outs)) ≡ queued → Clears h outs queued
+  clears marked₀ marked₁ as-many passed left = (
+    on-lines session size bytes h (beginning h (map takes outs) opened plain) (λ s i. HasMarker (s .sent) (s .line i .store)) marked₀ marked₁,
+    enough 2 (after h) outs as-many,
+    near session size bytes (h ++ map takes outs) plain passed,
+    left,
+  )
+
+-- ---- the premises
+
+pub opens : Opens session size bytes
+unfolding planOk storeOk allBelow sender.openOf receiver.openOf
+opens = record { sixteen = refl; sender = refl; receiver = refl; long = refl }
+
+-- the markers' labels: on both lines those after packet 5; on line 0 only, and line 1 stands at the opening
+abbrev bothMarked : ℕ → ℕ
+bothMarked i = 5
+
+abbrev firstMarked : ℕ → ℕ
+firstMarked i = cond (eqb i 0) 5 0
+
+-- Of `InOrder` and `AllOut`: nothing is lost, six items are held; and all eight packets are handed out.
+pub nothing-lost :
+    Near (calm ++ someTakes 6) × D.NothingLost session size bytes calm × D.NothingUnderWay session size bytes calm × Enough 2 (after calm) (replicate 6 room)
+    × (handedIn opened (calm ++ someTakes 6)
+    ≡ numbered 1 400 ∷ numbered 2 500 ∷ numbered 3 300 ∷ numbered 4 450 ∷ numbered 5 200 ∷ numbered 6 500 ∷ numbered 7 500 ∷ numbered 8 100 ∷ [])
+unfolding allBelow reading readingOf coded rowBytes outcome planOk storeOk chargeOf recordRead better best choose charged T.at
+    markerOn markerChecked ahead reportOf senderOk sender.openOf nextSender sendNumber sendOf markerFrom fromRing intoRing held stored frontOf
+    firstFrom lineAt receiverOk receiver.openOf ringOf withRing arrival dataArrival markerArrival lineStep itemStep roundNow takeOf itemsIn queue
+nothing-lost =
+    let plain : Plain opened (calm ++ someTakes 6) = refl in (
+      near session size bytes (calm ++ someTakes 6) plain refl,
+      on-lines session size bytes calm (beginning calm (someTakes 6) opened plain) (λ s i. s .line i .lost ≡ []) refl refl,
+      on-both (λ i. after calm .road i ≡ []) refl refl,
+      enough 2 (after calm) (replicate 6 room) refl,
+      refl,
+    )
+
+-- Packet 2 is lost. The third take, behind the arrival of packet 6, finds line 0's marker; when both lines have yielded their markers,
+-- packet 8 is to come.
+pub packet-lost : Near (lossy ++ someTakes 5) × Finds (take 18 lossy) × Orders (lossy ++ someTakes 4) (someTakes 1) bothMarked (numbered 8 100 ∷ [])
+unfolding allBelow reading readingOf coded rowBytes outcome planOk storeOk chargeOf recordRead better best choose charged T.at markerOn markerChecked ahead reportOf senderOk sender.openOf nextSender sendNumber sendOf markerFrom fromRing intoRing held stored frontOf firstFrom lineAt receiverOk receiver.openOf ringOf withRing arrival dataArrival markerArrival lineStep itemStep roundNow takeOf S.carried
+packet-lost =
+    let plain : Plain opened (lossy ++ someTakes 5) = refl in (
+      near session size bytes (lossy ++ someTakes 5) plain refl,
+      (near session size bytes (take 19 lossy) (beginning (take 19 lossy) (drop 19 lossy ++ someTakes 5) opened plain) refl, refl, refl),
+      orders (lossy ++ someTakes 4) (someTakes 1) bothMarked (numbered 8 100 ∷ []) plain refl (inl refl) (inl refl) (ltb-true 1 5 refl, tt) tt refl refl,
+    )
+
+-- Line 1's marker is lost too, but none of its packets: line 1 stands from the opening, and order holds from line 0's marker on.
+pub marker-lost :
+    Near (lossier ++ someTakes 4) × Finds (take 18 lossier)
+    × Orders (take 19 lossier) (drop 19 lossier ++ someTakes 4) firstMarked
+    (numbered 4 450 ∷ numbered 5 200 ∷ numbered 6 500 ∷ numbered 7 500 ∷ numbered 8 100 ∷ [])
+unfolding allBelow reading readingOf coded rowBytes outcome planOk storeOk chargeOf recordRead better best choose charged T.at
+    markerOn markerChecked ahead reportOf senderOk sender.openOf nextSender sendNumber sendOf markerFrom fromRing intoRing held stored frontOf
+    firstFrom lineAt receiverOk receiver.openOf ringOf withRing arrival dataArrival markerArrival lineStep itemStep roundNow takeOf S.carried
+marker-lost =
+    let plain : Plain opened (lossier ++ someTakes 4) = refl in (
+      near session size bytes (lossier ++ someTakes 4) plain refl,
+      (near session size bytes (take 19 lossier) (beginning (take 19 lossier) (drop 19 lossier ++ someTakes 4) opened plain) refl, refl, refl),
+      orders (take 19 lossier) (drop 19 lossier ++ someTakes 4) firstMarked _ plain refl (inl refl) refl (ltb-true 1 5 refl, tt) tt refl refl,
+    )
+
+-- Markers are sent after the last packet: as many takes as items held leave no packet, only line 0's last marker.
+pub all-marked :
+    Clears (lossy ++ closing) (replicate 7 room) ((1 ∷ []) ∷ [] ∷ []) × Clears (lossier ++ closing) (replicate 6 room) ((1 ∷ []) ∷ [] ∷ [])
+unfolding allBelow reading readingOf coded rowBytes outcome planOk storeOk chargeOf recordRead better best choose charged T.at markerOn markerChecked ahead reportOf senderOk sender.openOf nextSender sendNumber sendOf markerFrom fromRing intoRing held stored frontOf firstFrom lineAt receiverOk receiver.openOf ringOf withRing arrival dataArrival markerArrival lineStep itemStep roundNow takeOf itemsIn queue
+all-marked = (
+  clears (lossy ++ closing) (replicate 7 room) _ refl (inl refl) (inr (inl refl)) refl refl refl,
+  clears (lossier ++ closing) (replicate 6 room) _ refl (inl refl) (inl refl) refl refl refl,
+)
+
+-- Of `Rule` and `Share`: packet 5 is in range, and behind the first four it ends a full round.
+pub round-ends :
+    (1 ≤ length (numbered 5 200)) × (length (numbered 5 200) ≤ session .max)
+    × (ends theirs (D.carried session size bytes (take 8 calm)) (length (numbered 5 200)) ≡ true)
+unfolding allBelow planOk chargeOf better best choose charged S.carried ends senderOk sender.openOf nextSender sendNumber sendOf
+round-ends = (leb-true _ _ refl, leb-true _ _ refl, refl)
+
+-- Of `OnlyForCause`: there is room for a marker, for the first packet, once sent, in its line's ring, and for the largest in a take's output.
+pub room-enough :
+    (length (sender.markerOn (after (take 9 calm) .sender) 0) ≤ length room)
+    × (Near (take 1 calm) × (after (take 1 calm) .road 0 ≡ packet (numbered 1 400) ∷ [])
+    × (itemHead + length (bytesOf (packet (numbered 1 400))) ≤ size - at (after (take 1 calm) .receiver .used) 0))
+    × (session .max ≤ length room)
+unfolding allBelow coded rowBytes planOk storeOk chargeOf senderOk sender.openOf nextSender sendNumber sendOf receiver.openOf
+room-enough = (
+  leb-true _ _ refl,
+  (near session size bytes (take 1 calm) refl refl, refl, leb-true _ _ refl),
+  leb-true _ _ refl,
+)
+
+-- Of `ValidStaysValid`, and of `RefusedChangesNothing`: a packet of no bytes, a marker with no room, a packet on a line that is not there, and a
+-- take with no room are refused.
+pub valid-opened : (senderOk (opened .sender) ≡ true) × (receiverOk (opened .receiver) ≡ true)
+unfolding allBelow planOk storeOk ahead senderOk sender.openOf firstFrom lineAt receiverOk receiver.openOf
+valid-opened = (refl, refl)
+
+pub some-refused :
+    (sendOf (opened .sender) 0 .answer ≡ sent.Refused 4) × (markerFrom (opened .sender) 0 [] .answer ≡ written.Refused 8)
+    × (landing (opened .receiver) bytes 2 (packet (numbered 1 400)) .arrived .number ≡ 3)
+    × (takeOf (after (take 2 calm) .receiver) (after (take 2 calm) .store) [] .result .answer ≡ taken.Refused 8)
+unfolding allBelow coded rowBytes outcome planOk storeOk chargeOf ahead senderOk sender.openOf sendNumber sendOf markerFrom fromRing
+    intoRing held stored frontOf firstFrom lineAt receiverOk receiver.openOf ringOf withRing arrival dataArrival lineStep itemStep takeOf
+some-refused = (refl, refl, refl, refl)

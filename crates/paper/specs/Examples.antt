@@ -1,0 +1,95 @@
+-- The specification's examples, gathered.
+use Prim.Native.Nat.{ℕ}
+use mathlib.Core.Bool.{cond}
+use mathlib.Core.List.{List, [], _∷_, _++_}
+use mathlib.Core.Path.{_≡_}
+use lib.ListN.{replicate}
+use Rattle.numbers.specs.declared.Reading.the-variants.{Number, Nothing}
+use Rattle.numbers.specs.Coding.{readingOf, coded}
+use Rattle.plan.specs.declared.Plan.{Plan}
+use Rattle.marker.specs.Marker.{markerOf}
+use Rattle.report.specs.declared.Report.the-variants.{Missing, Behind}
+use Rattle.report.specs.Report.{ahead, reportOf}
+use Rattle.sender.specs.declared.Sender.{Sender}
+use Rattle.sender.specs.declared.Sent.{Sent}
+use Rattle.sender.specs.declared.Sent.the-variants as sent
+use Rattle.sender.specs.Sender.{at, openOf, sendOf, markerOn}
+use Rattle.receiver.specs.declared.Taken.{Taken}
+use Rattle.receiver.specs.declared.Taken.the-variants as taken
+use Rattle.receiver.specs.Taking.{takeOf}
+use Rattle.bundle.specs.Worlds.{World, Call, sends, asks, arrives, loses, takes, call, calls, handedIn}
+use Rattle.paper.specs.Session.{numbered, someTakes, opened, firstFive, lossy}
+
+-- a row of the table: line, round and counter before the send, and 1 if markers are due after it
+abbrev pub rowOf : Sender → Sent → List ℕ
+rowOf s (sent.Went i due) = i ∷ at (s .rounds) i ∷ at (s .counters) i ∷ cond due 1 0 ∷ []
+rowOf s (sent.Refused k) = k ∷ []
+
+abbrev pub rows : Sender → List ℕ → List (List ℕ)
+rows s [] = []
+rows s (size ∷ sizes) = rowOf s (sendOf s size .answer) ∷ rows (sendOf s size .next) sizes
+
+-- the line and the bytes missing that each marker reports
+abbrev pub toldBy : Taken → List (List ℕ)
+toldBy (taken.Waiting i) = []
+toldBy (taken.Data i n) = []
+toldBy (taken.Missing i m) = (i ∷ m ∷ []) ∷ []
+toldBy (taken.Behind i) = []
+toldBy (taken.Refused k) = []
+
+abbrev pub telling : World → Call → List (List ℕ)
+telling w (sends x) = []
+telling w (asks i out) = []
+telling w (arrives i) = []
+telling w (loses i) = []
+telling w (takes out) = toldBy (takeOf (w .receiver) (w .store) out .result .answer)
+
+abbrev pub toldIn : World → List Call → List (List ℕ)
+toldIn w [] = []
+toldIn w (e ∷ h) = telling w e ++ toldIn (call w e) h
+
+-- one line of quantum 500, and another: line and counter after a first send
+abbrev pub equal : Plan
+equal = record { lines = 2; max = 500; interval = 1; quanta = 500 ∷ 500 ∷ replicate 14 0 }
+
+abbrev pub lineAndCounter : ℕ → List ℕ
+lineAndCounter size = let s = sendOf (openOf equal .sender) size .next in s .line ∷ at (s .counters) 0 ∷ []
+
+pub record Examples : Type 0 where
+  -- the eight choices
+  pub choices :
+      rows (opened .sender) (400 ∷ 500 ∷ 300 ∷ 450 ∷ 200 ∷ 500 ∷ 500 ∷ 100 ∷ [])
+      ≡ (0 ∷ 1 ∷ 1000 ∷ 0 ∷ [])
+      ∷ (0 ∷ 1 ∷ 600 ∷ 0 ∷ [])
+      ∷ (0 ∷ 1 ∷ 100 ∷ 0 ∷ [])
+      ∷ (1 ∷ 1 ∷ 500 ∷ 0 ∷ [])
+      ∷ (1 ∷ 1 ∷ 50 ∷ 1 ∷ [])
+      ∷ (0 ∷ 2 ∷ 800 ∷ 0 ∷ [])
+      ∷ (0 ∷ 2 ∷ 300 ∷ 0 ∷ [])
+      ∷ (1 ∷ 2 ∷ 350 ∷ 0 ∷ [])
+      ∷ []
+  -- markers after packet 5
+  pub markers :
+      (markerOn (calls opened (firstFive (arrives 0) (arrives 1)) .sender) 0 ≡ 0x00 ∷ 0x02 ∷ 0xA0 ∷ 0x06 ∷ [])
+      × (markerOn (calls opened (firstFive (arrives 0) (arrives 1)) .sender) 1 ≡ 0x01 ∷ 0x02 ∷ 0xDE ∷ 0x02 ∷ [])
+  -- packet 2 lost: handed out are 1, 3, 4, 5, 6, 7, 8; line 0's marker reports 500 missing, line 1's 0
+  pub packet-lost :
+      (handedIn opened (lossy ++ someTakes 5)
+      ≡ numbered 1 400 ∷ numbered 3 300 ∷ numbered 4 450 ∷ numbered 5 200 ∷ numbered 6 500 ∷ numbered 7 500 ∷ numbered 8 100 ∷ [])
+      × (toldIn opened (lossy ++ someTakes 5) ≡ (0 ∷ 500 ∷ []) ∷ (1 ∷ 0 ∷ []) ∷ [])
+  -- 127 is 7F; 128 is 80 01; 80 00 is refused
+  pub one-byte-and-two :
+      (coded 32 127 ≡ 0x7F ∷ []) × (coded 32 128 ≡ 0x80 ∷ 0x01 ∷ []) × (readingOf 32 (0x80 ∷ 0x00 ∷ []) ≡ Nothing)
+  -- FF FF FF FF 0F is 4,294,967,295; FF FF FF FF 10 is refused
+  pub largest-number :
+      (readingOf 32 (0xFF ∷ 0xFF ∷ 0xFF ∷ 0xFF ∷ 0x0F ∷ []) ≡ Number 4294967295 5)
+      × (readingOf 32 (0xFF ∷ 0xFF ∷ 0xFF ∷ 0xFF ∷ 0x10 ∷ []) ≡ Nothing)
+  -- counter 500, length 500, q 500: moves on, counter 500; length 499: stays, counter 1
+  pub moves-on : (lineAndCounter 500 ≡ 1 ∷ 500 ∷ []) × (lineAndCounter 499 ≡ 0 ∷ 1 ∷ [])
+  -- line round 4,294,967,295, marker round 1: ahead 2
+  pub wraps : ahead 1 4294967295 ≡ 2
+  -- ahead 2^31 − 1 is taken; 2^31 gives 11
+  pub half-way :
+      (reportOf 1000 1 800 (markerOf 0 2147483648 800) ≡ Missing 2147483647000) × (reportOf 1000 1 800 (markerOf 0 2147483649 800) ≡ Behind)
+  -- same round, same counter: taken, missing 0; same round, counter one higher: 11
+  pub same-round : (reportOf 1000 7 800 (markerOf 0 7 800) ≡ Missing 0) × (reportOf 1000 7 800 (markerOf 0 7 801) ≡ Behind)
