@@ -11,14 +11,14 @@ use lib.Dec.{eqb}
 use lib.ListN.{length}
 use Rattle.plan.specs.declared.Plan.{Plan}
 use Rattle.plan.specs.Limits.{itemHead}
-use Rattle.plan.specs.Plan.{planOk}
+use Rattle.plan.specs.Plan.{at, planOk}
 use Rattle.theory.specs.System.{Item, State, positions, arrived, arriveOf, dropped, run}
 use Rattle.theory.specs.System as T
 use Rattle.theory.proofs.Lines.{arrived-position, dropped-position, dropped-store}
 use Rattle.theory.proofs.Histories.{at-field, at-all}
 use Rattle.ring.specs.Queue.{Entry, entry}
 use Rattle.receiver.specs.declared.Receiver.{Receiver}
-use Rattle.receiver.specs.Receiver.{at, receiverOk, storeFits}
+use Rattle.receiver.specs.Receiver.{receiverOk, storeFits}
 use Rattle.receiver.specs.Arriving.{Arrival, withItem, arrival, room}
 use Rattle.receiver.specs.History.{Stage, stage}
 use Rattle.receiver.proofs.Storing.{Lands, left, data-lands, marker-lands, landed-holds, landed-sound, landed-plan}

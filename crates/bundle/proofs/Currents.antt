@@ -12,7 +12,8 @@ use Rattle.numbers.proofs.Checks.{never}
 use Rattle.theory.specs.Sending.{Plan, rounds, best, choose, roundAt}
 use Rattle.theory.proofs.Choose.{Wins, Beats, best-wins, choose-wins, only-one-wins}
 use Rattle.report.specs.Report.{ahead}
-use Rattle.receiver.specs.Receiver.{at, lineAt}
+use Rattle.plan.specs.Plan.{at}
+use Rattle.receiver.specs.Receiver.{lineAt}
 use Rattle.receiver.specs.Taking.{roundNow}
 use Rattle.receiver.proofs.Laws.{First, first-is, at-round}
 use Rattle.receiver.proofs.Taking.{still-at, moved-on}

@@ -6,12 +6,11 @@ use mathlib.Core.Path.{_≡_}
 use lib.ListN.{length}
 use Rattle.plan.specs.declared.Plan.{Plan}
 use Rattle.plan.specs.Limits.{mostLines}
-use Rattle.plan.specs.Plan.{quantum}
+use Rattle.plan.specs.Plan.{at, quantum}
 use Rattle.theory.specs.Sending.{choose, roundAt, counterAt}
 use Rattle.theory.specs.Sending as S
 use Rattle.theory.specs.System.{Item, packet, marker, State, positions}
 use Rattle.sender.specs.History.{inTheory}
-use Rattle.receiver.specs.Receiver.{at}
 use Rattle.receiver.specs.History.{Stage, stage}
 use Rattle.receiver.proofs.Stages.{Sound, HoldsOn}
 use Rattle.bundle.specs.Worlds.{World}

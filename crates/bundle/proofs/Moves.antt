@@ -10,7 +10,7 @@ use lib.ListN.{length, set, drop, length-set}
 use lib.Seq.{getD-set-same, getD-set-other}
 use Rattle.plan.specs.declared.Plan.{Plan}
 use Rattle.plan.specs.Limits.{mostLines}
-use Rattle.plan.specs.Plan.{quantum, planOk}
+use Rattle.plan.specs.Plan.{at, quantum, planOk}
 use Rattle.plan.proofs.Laws.{in-range}
 use Rattle.theory.specs.Sending.{rounds, roundAt, counterAt}
 use Rattle.theory.specs.System.{Item, packet, marker, State, positions, current, fetched, step, take}
@@ -20,7 +20,7 @@ use Rattle.theory.proofs.Lines.{fetched-road}
 use Rattle.theory.proofs.Histories.{at-field, at-all}
 use Rattle.receiver.specs.declared.Receiver.{Receiver}
 use Rattle.receiver.specs.declared.Taken.the-variants.{Waiting}
-use Rattle.receiver.specs.Receiver.{at, lineAt, currentLine}
+use Rattle.receiver.specs.Receiver.{lineAt, currentLine}
 use Rattle.receiver.specs.Taking.{Stepped, itemStep, roundNow, lineOf, TakeOutcome, taken, takeOf}
 use Rattle.receiver.specs.History.{Stage, stage, takenBy}
 use Rattle.receiver.proofs.Stages.{HoldsOn}

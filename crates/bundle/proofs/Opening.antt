@@ -7,12 +7,12 @@ use mathlib.Core.Path.{_≡_, refl, ap, _∙_}
 use lib.ListN.{length, replicate, length-replicate, getD-replicate}
 use Rattle.plan.specs.declared.Plan.{Plan}
 use Rattle.plan.specs.Limits.{mostLines}
-use Rattle.plan.specs.Plan.{trimmed}
+use Rattle.plan.specs.Plan.{at, trimmed}
 use Rattle.plan.proofs.Laws.{in-range, first-entry, entries-length}
 use Rattle.theory.specs.Sending.{roundAt, counterAt}
 use Rattle.theory.specs.System as T
 use Rattle.receiver.specs.declared.Receiver.{Receiver}
-use Rattle.receiver.specs.Receiver.{at, openOf}
+use Rattle.receiver.specs.Receiver.{openOf}
 use Rattle.receiver.specs.Receiver as receiver
 use Rattle.receiver.specs.History.{stage}
 use Rattle.receiver.proofs.Histories.{is-open, open-sound, open-empty}

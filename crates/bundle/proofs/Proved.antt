@@ -30,7 +30,8 @@ use Rattle.receiver.proofs.Histories.{is-open}
 use Rattle.bundle.specs.Worlds.{World, Call, takes, call, handedIn}
 use Rattle.bundle.specs.Log.{takeStep, log}
 use Rattle.bundle.specs.Words.{Opens, Names, NoPacket}
-use Rattle.bundle.specs.Demands.{theirs, opened, after, logOf, seen, sentOf, Near, NothingLost, LogShown, ChargedBytes, SameRule, InOrder, AllOut, Reports, Order, Cleared, Valid, OnlyForCause, Promises}
+use Rattle.bundle.specs.Demands.{theirs, opened, after, logOf, seen, sentOf, Near, NothingLost}
+use Rattle.bundle.specs.Demands.{LogShown, ChargedBytes, SameRule, InOrder, AllOut, Reports, Order, Cleared, Valid, OnlyForCause, Promises}
 use Rattle.bundle.proofs.Meeting.{AllFit}
 use Rattle.bundle.proofs.Booth.{log-packets, kept-good, keeps, rule, share, marker-written}
 use Rattle.bundle.proofs.Arrivals.{land-stored}

@@ -7,7 +7,7 @@ use lib.ListN.{length}
 use Rattle.numbers.specs.declared.Written.the-variants as written
 use Rattle.plan.specs.declared.Plan.{Plan}
 use Rattle.plan.specs.Limits.{itemHead}
-use Rattle.plan.specs.Plan.{quantum, chargeOf, trimmed}
+use Rattle.plan.specs.Plan.{at, quantum, chargeOf, trimmed}
 use Rattle.theory.specs.Sending.{ends, ended, dueAfter}
 use Rattle.theory.specs.Sending as S
 use Rattle.theory.specs.Demands.{Lowest}
@@ -18,7 +18,7 @@ use Rattle.sender.specs.declared.Sent.the-variants as sent
 use Rattle.sender.specs.Sender.{senderOk, sendOf, markerOn, markerFrom}
 use Rattle.sender.specs.History.{inTheory}
 use Rattle.receiver.specs.declared.Taken.the-variants as taken
-use Rattle.receiver.specs.Receiver.{at, receiverOk}
+use Rattle.receiver.specs.Receiver.{receiverOk}
 use Rattle.receiver.specs.Taking.{takeOf}
 use Rattle.bundle.specs.Worlds.{Parcel, World, Call, sends, takes, start, landing, calls, sentIn, handedIn, reportedIn}
 use Rattle.bundle.specs.Words.{Names, Roomy, queue, heldBelow, NoPacket, bytesOf}
@@ -115,7 +115,8 @@ module _ (p : Plan) (size : ℕ) (store : List ℕ) where
   -- and once nothing is under way, as many takes with room as items held hand out the rest.
   abbrev pub AllOut : Type 0
   AllOut =
-      (h : List Call) → NothingLost h → NothingUnderWay h → (outs : List (List ℕ)) → length outs ≡ heldBelow (after h) (p .lines) → Roomy (after h) outs
+      (h : List Call) → NothingLost h → NothingUnderWay h
+      → (outs : List (List ℕ)) → length outs ≡ heldBelow (after h) (p .lines) → Roomy (after h) outs
       → handedIn opened (h ++ map takes outs) ≡ sentOf h
 
   -- ---- demand 3
@@ -123,7 +124,8 @@ module _ (p : Plan) (size : ℕ) (store : List ℕ) where
   -- A taken marker, labelled k: what it reports, and what was reported before on its line, are the bytes of the packets lost on the line before it.
   abbrev pub Reports : Type 0
   Reports =
-      (h : List Call) (out : List ℕ) (i m : ℕ) → Near (andThen h (takes out)) → takeOf (after h .receiver) (after h .store) out .result .answer ≡ taken.Missing i m
+      (h : List Call) (out : List ℕ) (i m : ℕ) → Near (andThen h (takes out))
+      → takeOf (after h .receiver) (after h .store) out .result .answer ≡ taken.Missing i m
       → (k position : ℕ) × (rest : List T.Item) × (seen h .line i .store ≡ T.marker k position ∷ rest)
       × (m + reportedIn i opened h ≡ total (before theirs i k) (seen h .line i .lost))
 

@@ -13,8 +13,9 @@ use Rattle.numbers.specs.Writing.{outcome}
 use Rattle.numbers.proofs.Laws.{row-short, answered-length, answered-number}
 use Rattle.marker.specs.declared.Marker.{Marker}
 use Rattle.marker.specs.Marker.{markerOf, markerBytes, counterOk, lineOk, markerWritten}
+use Rattle.plan.specs.Plan.{at}
 use Rattle.sender.specs.declared.Sender.{Sender}
-use Rattle.sender.specs.Sender.{at, senderOk, markerOn, markerFrom}
+use Rattle.sender.specs.Sender.{senderOk, markerOn, markerFrom}
 use Rattle.driver.specs.Exports.{exported}
 
 outcome-small : (number : ℕ) (bytes out : List ℕ) → number ≤ 10 → length bytes ≤ 99 → exported (outcome number bytes out .answer) < 2 ^ 32

@@ -5,8 +5,8 @@ use native.Mathlib.Numerals.{add-one}
 use native.Mathlib.Decide.{ℕ-discrete}
 use native.Mathlib.Omega.{arith}
 use mathlib.Core.Bool.{Bool, true, false, _&&_}
-use lib.Dec.{leb}
-use borrow.Author.Tests.{leb-true, le-leb, lt-leb}
+use lib.Dec.{leb, eqb}
+use borrow.Author.Tests.{leb-true, le-leb, lt-leb, eqb-false}
 use Rattle.numbers.specs.Checks.{check, inRange, allBelow}
 
 pub never : true ≡ false → ⊥
@@ -16,13 +16,18 @@ pub both : (a b : Bool) → a && b ≡ true → (a ≡ true) × (b ≡ true)
 both true b e = (refl, e)
 both false b e = absurd (never (sym e))
 
-pub left-false : (a b : Bool) → a ≡ false → a && b ≡ false
-left-false a b e = rw e
-
 -- a row that gives 0 has passed its first check
 pub check-passed : (ok : Bool) (n rest : ℕ) → 0 < n → check ok n rest ≡ 0 → (ok ≡ true) × (rest ≡ 0)
 check-passed true n rest h e = (refl, e)
 check-passed false n rest h e = absurd (omega arith)
+
+-- and where the check gives the number that it tests, the rest
+pub own-passed : (number rest : ℕ) → check (eqb number 0) number rest ≡ 0 → rest ≡ 0
+own-passed number rest e = go (eqb number 0) refl e
+  where
+    go : (t : Bool) → eqb number 0 ≡ t → check t number rest ≡ 0 → rest ≡ 0
+    go true q e = e
+    go false q e = absurd (eqb-false number 0 q e)
 
 -- ---- a range
 

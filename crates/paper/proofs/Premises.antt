@@ -12,7 +12,7 @@ use Rattle.numbers.specs.Checks.{allBelow}
 use Rattle.numbers.specs.Coding.{reading, readingOf, coded, rowBytes}
 use Rattle.numbers.specs.Writing.{outcome}
 use Rattle.plan.specs.Limits.{itemHead}
-use Rattle.plan.specs.Plan.{planOk, storeOk, chargeOf}
+use Rattle.plan.specs.Plan.{at, planOk, storeOk, chargeOf}
 use Rattle.marker.specs.Marker.{recordRead}
 use Rattle.theory.specs.Sending.{better, best, choose, charged, ends}
 use Rattle.theory.specs.Sending as S
@@ -28,7 +28,7 @@ use Rattle.ring.specs.Ring.{fromRing, intoRing, held, stored, frontOf}
 use Rattle.ring.specs.Queue.{Entry, itemsIn, queue}
 use Rattle.receiver.specs.declared.Taken.{Taken}
 use Rattle.receiver.specs.declared.Taken.the-variants as taken
-use Rattle.receiver.specs.Receiver.{at, firstFrom, lineAt, receiverOk, ringOf, withRing}
+use Rattle.receiver.specs.Receiver.{firstFrom, lineAt, receiverOk, ringOf, withRing}
 use Rattle.receiver.specs.Receiver as receiver
 use Rattle.receiver.specs.Arriving.{arrival, dataArrival, markerArrival}
 use Rattle.receiver.specs.Taking.{lineStep, itemStep, roundNow, takeOf}
@@ -142,7 +142,9 @@ nothing-lost =
 -- Packet 2 is lost. The third take, behind the arrival of packet 6, finds line 0's marker; when both lines have yielded their markers,
 -- packet 8 is to come.
 pub packet-lost : Near (lossy ++ someTakes 5) × Finds (take 18 lossy) × Orders (lossy ++ someTakes 4) (someTakes 1) bothMarked (numbered 8 100 ∷ [])
-unfolding allBelow reading readingOf coded rowBytes outcome planOk storeOk chargeOf recordRead better best choose charged T.at markerOn markerChecked ahead reportOf senderOk sender.openOf nextSender sendNumber sendOf markerFrom fromRing intoRing held stored frontOf firstFrom lineAt receiverOk receiver.openOf ringOf withRing arrival dataArrival markerArrival lineStep itemStep roundNow takeOf S.carried
+unfolding allBelow reading readingOf coded rowBytes outcome planOk storeOk chargeOf recordRead better best choose charged T.at markerOn
+    markerChecked ahead reportOf senderOk sender.openOf nextSender sendNumber sendOf markerFrom fromRing intoRing held stored frontOf firstFrom
+    lineAt receiverOk receiver.openOf ringOf withRing arrival dataArrival markerArrival lineStep itemStep roundNow takeOf S.carried
 packet-lost =
     let plain : Plain opened (lossy ++ someTakes 5) = refl in (
       near session size bytes (lossy ++ someTakes 5) plain refl,
@@ -168,7 +170,9 @@ marker-lost =
 -- Markers are sent after the last packet: as many takes as items held leave no packet, only line 0's last marker.
 pub all-marked :
     Clears (lossy ++ closing) (replicate 7 room) ((1 ∷ []) ∷ [] ∷ []) × Clears (lossier ++ closing) (replicate 6 room) ((1 ∷ []) ∷ [] ∷ [])
-unfolding allBelow reading readingOf coded rowBytes outcome planOk storeOk chargeOf recordRead better best choose charged T.at markerOn markerChecked ahead reportOf senderOk sender.openOf nextSender sendNumber sendOf markerFrom fromRing intoRing held stored frontOf firstFrom lineAt receiverOk receiver.openOf ringOf withRing arrival dataArrival markerArrival lineStep itemStep roundNow takeOf itemsIn queue
+unfolding allBelow reading readingOf coded rowBytes outcome planOk storeOk chargeOf recordRead better best choose charged T.at markerOn
+    markerChecked ahead reportOf senderOk sender.openOf nextSender sendNumber sendOf markerFrom fromRing intoRing held stored frontOf firstFrom
+    lineAt receiverOk receiver.openOf ringOf withRing arrival dataArrival markerArrival lineStep itemStep roundNow takeOf itemsIn queue
 all-marked = (
   clears (lossy ++ closing) (replicate 7 room) _ refl (inl refl) (inr (inl refl)) refl refl refl,
   clears (lossier ++ closing) (replicate 6 room) _ refl (inl refl) (inl refl) refl refl refl,

@@ -14,7 +14,7 @@ use Rattle.numbers.specs.Writing.{outcome}
 use Rattle.numbers.specs.Writing as writing
 use Rattle.numbers.proofs.Checks.{never}
 use Rattle.plan.specs.declared.Plan.{Plan}
-use Rattle.plan.specs.Plan.{quantum, planOk, storeOk, chargeOf}
+use Rattle.plan.specs.Plan.{at, quantum, planOk, storeOk, chargeOf}
 use Rattle.marker.specs.Marker.{recordRead}
 use Rattle.theory.specs.Sending.{better, best, choose, charged, ends, ended, dueAfter}
 use Rattle.theory.specs.Sending as S
@@ -242,6 +242,6 @@ wrong =
       ask-short = λ e. differ _ _ refl (ap writing.lengthOf e);
       land-refused = differ 7 0 refl;
       take-refused = λ none. none 8 refl;
-      refused-charges = λ e. differ _ _ refl (ap (λ (s : Sender). sender.at (s .counters) 0) e);
+      refused-charges = λ e. differ _ _ refl (ap (λ (s : Sender). at (s .counters) 0) e);
       refused-writes = λ e. differ _ _ refl (ap (λ (out : List ℕ). getD out 0 0) e);
     }

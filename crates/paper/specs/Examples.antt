@@ -10,10 +10,11 @@ use Rattle.plan.specs.declared.Plan.{Plan}
 use Rattle.marker.specs.Marker.{markerOf}
 use Rattle.report.specs.declared.Report.the-variants.{Missing, Behind}
 use Rattle.report.specs.Report.{ahead, reportOf}
+use Rattle.plan.specs.Plan.{at}
 use Rattle.sender.specs.declared.Sender.{Sender}
 use Rattle.sender.specs.declared.Sent.{Sent}
 use Rattle.sender.specs.declared.Sent.the-variants as sent
-use Rattle.sender.specs.Sender.{at, openOf, sendOf, markerOn}
+use Rattle.sender.specs.Sender.{openOf, sendOf, markerOn}
 use Rattle.receiver.specs.declared.Taken.{Taken}
 use Rattle.receiver.specs.declared.Taken.the-variants as taken
 use Rattle.receiver.specs.Taking.{takeOf}

@@ -8,9 +8,13 @@ use Rattle.numbers.specs.Checks.{inRange, allBelow}
 use Rattle.plan.specs.declared.Plan.{Plan}
 use Rattle.plan.specs.Limits.{leastLines, mostLines, leastMax, mostMax, mostQuantum, leastInterval, mostInterval, itemHead, mostStore}
 
+-- entry i of sixteen
+abbrev pub at : List ℕ → ℕ → ℕ
+at entries i = getD entries i 0
+
 -- line i's quantum
 abbrev pub quantum : Plan → ℕ → ℕ
-quantum p i = getD (p .quanta) i 0
+quantum p i = at (p .quanta) i
 
 -- what a packet of `length` bytes is charged on line i: its length
 unfoldable pub chargeOf : Plan → ℕ → ℕ → ℕ

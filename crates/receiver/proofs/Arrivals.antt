@@ -7,7 +7,7 @@ use mathlib.Core.List.{List}
 use lib.ListN.{length, set}
 use borrow.Author.Tests.{leb-true, le-leb, lt-leb, lt-ltb, le-ltb, ne-eqb}
 use Rattle.plan.specs.Limits.{mostStore, itemHead}
-use Rattle.plan.specs.Plan.{quantum}
+use Rattle.plan.specs.Plan.{at, quantum}
 use Rattle.marker.specs.declared.Marker.{Marker}
 use Rattle.marker.specs.declared.MarkerRead.the-variants.{Whole, Refused}
 use Rattle.report.specs.Report.{markerOn}
@@ -15,7 +15,7 @@ use Rattle.report.proofs.Laws.{some-number}
 use Rattle.ring.specs.Ring.{roomFor, stored}
 use Rattle.receiver.specs.declared.Receiver.{Receiver}
 use Rattle.receiver.specs.declared.Arrived.{Arrived}
-use Rattle.receiver.specs.Receiver.{at, receiverOk, storeFits, ringOf, withRing}
+use Rattle.receiver.specs.Receiver.{receiverOk, storeFits, ringOf, withRing}
 use Rattle.receiver.specs.Arriving.{Arrival, notStored, arrival, room, placed, dataArrival, markerArrival}
 use Rattle.receiver.proofs.Stores.{Place, lent, back, lent-is, back-is, back-same}
 

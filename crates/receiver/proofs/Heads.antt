@@ -10,7 +10,7 @@ use lib.Seq.{take-append-seam}
 use borrow.Author.Tests.{eq-eqb, eqb-true}
 use Rattle.numbers.specs.Checks.{inRange}
 use Rattle.plan.specs.declared.Plan.{Plan}
-use Rattle.plan.specs.Plan.{quantum}
+use Rattle.plan.specs.Plan.{at, quantum}
 use Rattle.marker.specs.declared.MarkerRead.{MarkerRead}
 use Rattle.marker.specs.declared.MarkerRead.the-variants as read
 use Rattle.report.specs.declared.Report.{Report}
@@ -23,7 +23,7 @@ use Rattle.ring.proofs.Promises.{taking-drops}
 use Rattle.receiver.specs.declared.Receiver.{Receiver}
 use Rattle.receiver.specs.declared.Line.{Line}
 use Rattle.receiver.specs.declared.Taken.the-variants.{Waiting, Data, Refused}
-use Rattle.receiver.specs.Receiver.{at, currentLine, ringOf}
+use Rattle.receiver.specs.Receiver.{currentLine, ringOf}
 use Rattle.receiver.specs.Taking.{Stepped, stays, afterData, dataStep, reportStep, markerStep, itemStep, lineStep}
 use Rattle.receiver.specs.Taking.{lineOf, withLine, TakeOutcome, taken, takeOf}
 use Rattle.receiver.specs.History.{Stage}

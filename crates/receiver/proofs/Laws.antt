@@ -13,10 +13,10 @@ use Rattle.numbers.specs.Checks.{inRange, allBelow}
 use Rattle.numbers.proofs.Checks.{both, in-range as is-in-range, from-range, all-at, all}
 use Rattle.plan.specs.declared.Plan.{Plan}
 use Rattle.plan.specs.Limits.{itemHead, mostStore}
-use Rattle.plan.specs.Plan.{quantum, planOk, storeOk}
+use Rattle.plan.specs.Plan.{at, quantum, planOk, storeOk}
 use Rattle.report.specs.Report.{ahead}
 use Rattle.receiver.specs.declared.Receiver.{Receiver}
-use Rattle.receiver.specs.Receiver.{at, firstFrom, lineAt, currentLine, lineOk, receiverOk, closed, opened, openOf, ringOf}
+use Rattle.receiver.specs.Receiver.{firstFrom, lineAt, currentLine, lineOk, receiverOk, closed, opened, openOf, ringOf}
 
 -- ---- the first number of which a test holds
 

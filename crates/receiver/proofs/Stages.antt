@@ -6,7 +6,8 @@ use mathlib.Core.List.{List}
 use lib.ListN.{length}
 use Rattle.plan.specs.Limits.{mostLines}
 use Rattle.ring.specs.Queue.{Entry, Holds}
-use Rattle.receiver.specs.Receiver.{at, receiverOk, ringOf}
+use Rattle.plan.specs.Plan.{at}
+use Rattle.receiver.specs.Receiver.{receiverOk, ringOf}
 use Rattle.receiver.specs.History.{Stage, queueOn}
 
 -- a valid receiver with sixteen entries a list, over a store of N × S bytes

@@ -10,16 +10,17 @@ use lib.Dec.{ltb, leb, eqb}
 use lib.ListN.{length, length-set}
 use lib.Seq.{getD-set-same, getD-set-other}
 use borrow.Author.Tests.{ltb-true, leb-true, eqb-true, eqb-false, eq-eqb, ne-eqb}
-use Rattle.numbers.specs.Checks.{check, inRange}
-use Rattle.numbers.proofs.Checks.{check-passed}
+use Rattle.numbers.specs.Checks.{inRange}
+use Rattle.numbers.proofs.Checks.{check-passed, own-passed}
 use Rattle.plan.proofs.Laws.{in-range}
 use Rattle.plan.specs.Limits.{itemHead}
 use Rattle.ring.specs.Ring.{stored}
 use Rattle.ring.specs.Queue.{Entry, entry}
 use Rattle.ring.proofs.Laws.{stored-length}
 use Rattle.ring.proofs.Promises.{storing-appends}
+use Rattle.plan.specs.Plan.{at}
 use Rattle.receiver.specs.declared.Receiver.{Receiver}
-use Rattle.receiver.specs.Receiver.{at, receiverOk, storeFits, ringOf}
+use Rattle.receiver.specs.Receiver.{receiverOk, storeFits, ringOf}
 use Rattle.receiver.specs.Arriving.{Arrival, withItem, withStored, notStored, arrival, room, placed, markerNumber, dataArrival, markerArrival}
 use Rattle.receiver.specs.History.{Stage, stage, kept}
 use Rattle.receiver.proofs.Laws.{valid, sized, ring-length}
@@ -57,14 +58,6 @@ module _ (r : Receiver) (i kind : ℕ) (b store : List ℕ) where
       let line = check-passed (ltb i (r .plan .lines)) 3 rest (omega arith) (long .1) in
       let free = check-passed (leb (itemHead + length b) (r .size - at (r .used) i)) 7 0 (omega arith) (to-room (line .1)) in
       record { line = ltb-true i (r .plan .lines) (line .0); free = leb-true (itemHead + length b) (r .size - at (r .used) i) (free .0) }
-
--- a check that gives its own number
-own-passed : (n rest : ℕ) → check (eqb n 0) n rest ≡ 0 → rest ≡ 0
-own-passed n rest e = go (eqb n 0) refl e
-  where
-    go : (t : Bool) → eqb n 0 ≡ t → check t n rest ≡ 0 → rest ≡ 0
-    go true q e = e
-    go false q e = absurd (eqb-false n 0 q e)
 
 pub data-lands : (r : Receiver) (i : ℕ) (b store : List ℕ) → Lands r i 0 b store (dataArrival r i b store)
 unfolding dataArrival

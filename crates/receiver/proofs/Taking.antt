@@ -14,7 +14,7 @@ use Rattle.numbers.specs.Writing.{outcome, written}
 use Rattle.numbers.proofs.Checks.{in-range as is-in-range}
 use Rattle.plan.specs.declared.Plan.{Plan}
 use Rattle.plan.specs.Limits.{itemHead}
-use Rattle.plan.specs.Plan.{quantum, chargeOf}
+use Rattle.plan.specs.Plan.{at, quantum, chargeOf}
 use Rattle.marker.specs.declared.Marker.{Marker}
 use Rattle.marker.specs.declared.MarkerRead.{MarkerRead}
 use Rattle.marker.specs.declared.MarkerRead.the-variants as read
@@ -31,7 +31,7 @@ use Rattle.receiver.specs.declared.Line.{Line}
 use Rattle.receiver.specs.declared.Step.{Step}
 use Rattle.receiver.specs.declared.Taken.the-variants.{Waiting, Data, Missing, Behind, Refused}
 use Rattle.receiver.specs.declared.Receiver.{Receiver}
-use Rattle.receiver.specs.Receiver.{at, lineAt, currentLine, receiverOk, storeFits, ringOf}
+use Rattle.receiver.specs.Receiver.{lineAt, currentLine, receiverOk, storeFits, ringOf}
 use Rattle.receiver.specs.Taking.{stays, pastItem, afterData, dataStep, reportStep, markerStep, markerTaken, itemStep, lineStep, Ready, Stepped, roundNow, lineOf, withLine, TakeOutcome, notTaken, takeAt, takeOf}
 use Rattle.receiver.proofs.Laws.{valid}
 use Rattle.receiver.proofs.Stores.{place}

@@ -9,12 +9,12 @@ use mathlib.Core.List.{List}
 use lib.Dec.{ltb, eqb}
 use lib.ListN.{length, set, replicate, getD-replicate}
 use lib.Seq.{set-out, set-getD, getD-set-same, getD-set-other}
-use borrow.Author.Tests.{eq-eqb, ne-eqb, eqb-false, ltb-true, leb-true}
-use Rattle.numbers.specs.Checks.{check, inRange}
-use Rattle.numbers.proofs.Checks.{never, both, check-passed}
+use borrow.Author.Tests.{eq-eqb, ne-eqb, ltb-true, leb-true}
+use Rattle.numbers.specs.Checks.{inRange}
+use Rattle.numbers.proofs.Checks.{never, both, check-passed, own-passed}
 use Rattle.plan.specs.declared.Plan.{Plan}
 use Rattle.plan.specs.Limits.{mostLines, itemHead}
-use Rattle.plan.specs.Plan.{quantum, planOk, storeOk, firstEntries, trimmed}
+use Rattle.plan.specs.Plan.{at, quantum, planOk, storeOk, firstEntries, trimmed}
 use Rattle.plan.specs.Record.{zeros}
 use Rattle.plan.proofs.Laws.{in-range, first-entry, trimmed-ok}
 use Rattle.report.specs.Report.{ahead}
@@ -24,7 +24,7 @@ use Rattle.theory.proofs.Choose.{best-wins}
 use Rattle.receiver.specs.declared.Receiver.{Receiver}
 use Rattle.receiver.specs.declared.ReceiverOpened.{ReceiverOpened}
 use Rattle.receiver.specs.declared.Line.{Line}
-use Rattle.receiver.specs.Receiver.{at, lineAt, currentLine, receiverOk, opened, openOf, storeFits, ringOf}
+use Rattle.receiver.specs.Receiver.{lineAt, currentLine, receiverOk, opened, openOf, storeFits, ringOf}
 use Rattle.receiver.specs.Arriving.{withItem, arrival, room, placed, dataArrival, markerNumber, markerArrival}
 use Rattle.receiver.specs.Taking.{Ready, lineStep, roundNow, lineOf, withLine, TakeOutcome, refusedWith, takeAt, takeOf}
 use Rattle.receiver.specs.Takes.{wordOf, bytesOf, goesOn}
@@ -180,14 +180,6 @@ item-valid r v i n line room = record {
   near = v .near;
   current = v .current;
 }
-
--- a check that gives the number it tests
-own-passed : (number rest : ℕ) → check (eqb number 0) number rest ≡ 0 → rest ≡ 0
-own-passed number rest e = go (eqb number 0) refl e
-  where
-    go : (t : Bool) → eqb number 0 ≡ t → check t number rest ≡ 0 → rest ≡ 0
-    go true q e = e
-    go false q e = absurd (eqb-false number 0 q e)
 
 module _ (r : Receiver) (i : ℕ) (b store : List ℕ) (good : receiverOk r ≡ true) where
   -- an item that passes all checks has room on its line

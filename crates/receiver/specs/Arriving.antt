@@ -6,13 +6,13 @@ use lib.Dec.{ltb, eqb}
 use lib.ListN.{length, set}
 use Rattle.numbers.specs.Checks.{check, inRange}
 use Rattle.plan.specs.Limits.{itemHead}
-use Rattle.plan.specs.Plan.{quantum}
+use Rattle.plan.specs.Plan.{at, quantum}
 use Rattle.marker.specs.Marker.{numberOf}
 use Rattle.report.specs.Report.{markerOn}
 use Rattle.ring.specs.Ring.{roomFor, stored}
 use Rattle.receiver.specs.declared.Receiver.{Receiver}
 use Rattle.receiver.specs.declared.Arrived.{Arrived}
-use Rattle.receiver.specs.Receiver.{at, receiverOk, storeFits, ringOf, withRing}
+use Rattle.receiver.specs.Receiver.{receiverOk, storeFits, ringOf, withRing}
 
 -- what an arrival answers with the next state, and the store
 pub record Arrival : Type 0 where

@@ -7,10 +7,11 @@ use lib.Dec.{eqb}
 use lib.ListN.{length, drop}
 use Rattle.plan.specs.declared.Plan.{Plan}
 use Rattle.ring.specs.Queue.{Entry, entry, queue}
+use Rattle.plan.specs.Plan.{at}
 use Rattle.receiver.specs.declared.Receiver.{Receiver}
 use Rattle.receiver.specs.declared.Taken.{Taken}
 use Rattle.receiver.specs.declared.Taken.the-variants.{Waiting, Data, Missing, Behind, Refused}
-use Rattle.receiver.specs.Receiver.{at, receiverOk, openOf, ringOf}
+use Rattle.receiver.specs.Receiver.{receiverOk, openOf, ringOf}
 use Rattle.receiver.specs.Arriving.{Arrival, dataArrival, markerArrival}
 use Rattle.receiver.specs.Taking.{takeOf}
 

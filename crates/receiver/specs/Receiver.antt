@@ -3,19 +3,15 @@ use Prim.Native.Nat.{ℕ, zero, suc, _+_, _*_}
 use mathlib.Core.Bool.{Bool, _&&_, cond}
 use mathlib.Core.List.{List, _++_}
 use lib.Dec.{ltb, leb, eqb}
-use lib.ListN.{length, take, drop, getD, replicate}
+use lib.ListN.{length, take, drop, replicate}
 use Rattle.numbers.specs.Checks.{inRange, allBelow}
 use Rattle.plan.specs.declared.Plan.{Plan}
 use Rattle.plan.specs.Limits.{mostLines}
-use Rattle.plan.specs.Plan.{quantum, planOk, storeOk, firstEntries, trimmed}
+use Rattle.plan.specs.Plan.{at, quantum, planOk, storeOk, firstEntries, trimmed}
 use Rattle.plan.specs.Record.{zeros, bare}
 use Rattle.report.specs.Report.{ahead}
 use Rattle.receiver.specs.declared.Receiver.{Receiver}
 use Rattle.receiver.specs.declared.ReceiverOpened.{ReceiverOpened}
-
--- entry i of sixteen
-abbrev pub at : List ℕ → ℕ → ℕ
-at entries i = getD entries i 0
 
 -- ---- the current line
 

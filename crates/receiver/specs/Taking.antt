@@ -8,7 +8,7 @@ use lib.ListN.{length, take, drop, set}
 use Rattle.numbers.specs.Checks.{inRange}
 use Rattle.plan.specs.declared.Plan.{Plan}
 use Rattle.plan.specs.Limits.{itemHead, mostStore}
-use Rattle.plan.specs.Plan.{quantum, planOk, chargeOf, counterAfter, roundAfter}
+use Rattle.plan.specs.Plan.{at, quantum, planOk, chargeOf, counterAfter, roundAfter}
 use Rattle.marker.specs.declared.MarkerRead.{MarkerRead}
 use Rattle.marker.specs.declared.MarkerRead.the-variants as read
 use Rattle.theory.specs.Sending.{best}
@@ -24,7 +24,7 @@ use Rattle.receiver.specs.declared.Step.{Step}
 use Rattle.receiver.specs.declared.Taken.{Taken}
 use Rattle.receiver.specs.declared.Taken.the-variants.{Waiting, Data, Missing, Behind, Refused}
 use Rattle.receiver.specs.declared.TakeResult.{TakeResult}
-use Rattle.receiver.specs.Receiver.{at, lineAt, currentLine, receiverOk, storeFits, ringOf}
+use Rattle.receiver.specs.Receiver.{lineAt, currentLine, receiverOk, storeFits, ringOf}
 
 -- the table's number that a take gives, 0 for none; and its line, with the length of data or the bytes missing
 abbrev pub numberOf : Taken → ℕ

@@ -74,10 +74,6 @@ some-number i q b k e z = go (recordRead b) refl e
 -- ---- rounds ahead
 
 module _ (round from : ℕ) where
-  pub ahead-small : ahead round from < 4294967296
-  unfolding ahead
-  ahead-small = omega arith
-
   -- added to the round that it is counted from, it wraps back
   pub ahead-is : from < 4294967296 → (r : ℕ) → r < 4294967296 → (r + from) % 2 ^ 32 ≡ round → r ≡ ahead round from
   unfolding ahead

@@ -12,7 +12,7 @@ use Rattle.numbers.specs.Writing.{written}
 use Rattle.numbers.proofs.Checks.{from-range}
 use Rattle.plan.specs.declared.Plan.{Plan}
 use Rattle.plan.specs.Limits.{mostLines}
-use Rattle.plan.specs.Plan.{quantum, planOk, chargeOf, trimmed}
+use Rattle.plan.specs.Plan.{at, quantum, planOk, chargeOf, trimmed}
 use Rattle.plan.proofs.Laws.{in-range, charge-some, charge-max, max-charge-quantum, first-entry, entries-length, trimmed-ok}
 use Rattle.marker.specs.Marker.{markerOf, markerBytes}
 use Rattle.theory.specs.Sending as T
@@ -23,7 +23,7 @@ use Rattle.sender.specs.declared.Sender.{Sender}
 use Rattle.sender.specs.declared.Sent.the-variants.{Went}
 use Rattle.sender.specs.declared.SenderOpened.{SenderOpened}
 use Rattle.sender.specs.declared.SendResult.{SendResult}
-use Rattle.sender.specs.Sender.{at, senderOk, opened, openOf, nextSender, chargeNow, refusedWith, sendOf, markerFrom}
+use Rattle.sender.specs.Sender.{senderOk, opened, openOf, nextSender, chargeNow, refusedWith, sendOf, markerFrom}
 use Rattle.sender.specs.History.{Call, send, ask, after, afterOpening, isPacket, packets, lengths, count, inTheory, figuresOf, carriedBy, endedBy, andSend, Keeps}
 use Rattle.sender.proofs.Laws.{Valid, valid, is-valid, is-opened, as-asked}
 use Rattle.sender.proofs.Steps.{stands, next-valid, next-figures, packet-covered, packet-goes, other-refused}

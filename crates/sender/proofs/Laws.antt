@@ -15,12 +15,12 @@ use Rattle.numbers.specs.Writing.{written, outcome}
 use Rattle.numbers.proofs.Checks.{check-passed, both, in-range as is-in-range, from-range, all-at, all}
 use Rattle.plan.specs.declared.Plan.{Plan}
 use Rattle.plan.specs.Limits.{mostLines}
-use Rattle.plan.specs.Plan.{quantum, planOk}
+use Rattle.plan.specs.Plan.{at, quantum, planOk}
 use Rattle.plan.proofs.Laws.{in-range}
 use Rattle.sender.specs.declared.Sender.{Sender}
 use Rattle.sender.specs.declared.Sent.the-variants.{Went, Refused}
 use Rattle.sender.specs.declared.SendResult.{SendResult}
-use Rattle.sender.specs.Sender.{at, counterOk, senderOk, closed, opened, openOf, nextSender, refusedWith, wentWith, Ready, chargeNow, sendNumber, sendOf, markerOn, markerFrom}
+use Rattle.sender.specs.Sender.{counterOk, senderOk, closed, opened, openOf, nextSender, refusedWith, wentWith, Ready, chargeNow, sendNumber, sendOf, markerOn, markerFrom}
 
 -- ---- a valid state
 

@@ -12,12 +12,12 @@ use Rattle.numbers.specs.Coding.{coded, rowBytes}
 use Rattle.numbers.proofs.Checks.{check-passed}
 use Rattle.plan.specs.declared.Plan.{Plan}
 use Rattle.plan.specs.Limits.{mostLines}
-use Rattle.plan.specs.Plan.{quantum, planOk, chargeOf, trimmed}
+use Rattle.plan.specs.Plan.{at, quantum, planOk, chargeOf, trimmed}
 use Rattle.plan.proofs.Promises.{session}
 use Rattle.theory.specs.Sending as T
 use Rattle.sender.specs.declared.Sender.{Sender}
 use Rattle.sender.specs.declared.SendResult.{SendResult}
-use Rattle.sender.specs.Sender.{valuesOf, at, senderOk, openOf, nextSender, wentWith, refusedWith, chargeNow, sendNumber, sendOf, markerOn}
+use Rattle.sender.specs.Sender.{valuesOf, senderOk, openOf, nextSender, wentWith, refusedWith, chargeNow, sendNumber, sendOf, markerOn}
 use Rattle.sender.specs.History.{Call, send, after, afterOpening, packets, inTheory, carriedBy, endedBy, Keeps}
 use Rattle.sender.proofs.Laws.{valid, is-valid}
 use Rattle.sender.proofs.Steps.{next-valid}

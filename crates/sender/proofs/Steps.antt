@@ -10,11 +10,11 @@ use lib.Seq.{getD-set-same, getD-set-other}
 use lib.Dec.{ltb, eqb}
 use borrow.Author.Tests.{leb-true, leb-false, ltb-true, eqb-false, eq-eqb, ne-eqb}
 use Rattle.numbers.proofs.Checks.{from-range}
-use Rattle.plan.specs.Plan.{quantum}
+use Rattle.plan.specs.Plan.{at, quantum}
 use Rattle.plan.proofs.Laws.{charge-quantum}
 use Rattle.theory.specs.FirstForm.{change, firstSend}
 use Rattle.sender.specs.declared.Sender.{Sender}
-use Rattle.sender.specs.Sender.{at, senderOk, runsOut, completes, nextSender, refusedWith, wentWith, chargeNow, sendNumber, sendOf}
+use Rattle.sender.specs.Sender.{senderOk, runsOut, completes, nextSender, refusedWith, wentWith, chargeNow, sendNumber, sendOf}
 use Rattle.sender.specs.History.{isPacket, inTheory, figuresOf}
 use Rattle.sender.proofs.Laws.{Valid, valid, covered-went}
 

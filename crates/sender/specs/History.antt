@@ -7,14 +7,14 @@ use lib.ListN.{length, getD}
 use Rattle.numbers.specs.Checks.{inRange}
 use Rattle.numbers.specs.Writing.{written}
 use Rattle.plan.specs.declared.Plan.{Plan}
-use Rattle.plan.specs.Plan.{quantum, chargeOf}
+use Rattle.plan.specs.Plan.{at, quantum, chargeOf}
 use Rattle.marker.specs.Marker.{markerOf, markerBytes}
 use Rattle.theory.specs.Sending as T
 use Rattle.theory.specs.FirstForm.{Figures}
 use Rattle.theory.specs.Demands.{Lowest, Shows}
 use Rattle.sender.specs.declared.Sender.{Sender}
 use Rattle.sender.specs.declared.Sent.the-variants.{Went}
-use Rattle.sender.specs.Sender.{at, senderOk, openOf, refusedWith, sendOf, markerFrom}
+use Rattle.sender.specs.Sender.{senderOk, openOf, refusedWith, sendOf, markerFrom}
 
 -- a packet of so many bytes is sent; a marker is asked for on a line, into an output
 pub data Call : Type 0 where

@@ -3,12 +3,12 @@ use Prim.Native.Nat.{ℕ, suc, _+_, _-_, _≤_, _<_}
 use mathlib.Core.Bool.{Bool, _&&_, cond}
 use mathlib.Core.List.{List, [], _∷_}
 use lib.Dec.{ltb, eqb}
-use lib.ListN.{getD, set, replicate}
+use lib.ListN.{set, replicate}
 use Rattle.numbers.specs.Checks.{check, inRange, allBelow}
 use Rattle.numbers.specs.Writing.{Outcome, room, outcome}
 use Rattle.plan.specs.declared.Plan.{Plan}
 use Rattle.plan.specs.Limits.{mostLines, mostQuantum}
-use Rattle.plan.specs.Plan.{quantum, planOk, chargeOf, spent, counterAfter, roundAfter, firstEntries, trimmed}
+use Rattle.plan.specs.Plan.{at, quantum, planOk, chargeOf, spent, counterAfter, roundAfter, firstEntries, trimmed}
 use Rattle.plan.specs.Record.{zeros, bare}
 use Rattle.marker.specs.Marker.{markerOf, markerBytes}
 use Rattle.sender.specs.declared.Sender.{Sender}
@@ -25,10 +25,6 @@ numberOf (Refused k) = k
 abbrev pub valuesOf : Sent → List ℕ
 valuesOf (Went line due) = line ∷ cond due 1 0 ∷ []
 valuesOf (Refused k) = []
-
--- entry i of sixteen
-abbrev pub at : List ℕ → ℕ → ℕ
-at entries i = getD entries i 0
 
 -- ---- a valid state
 

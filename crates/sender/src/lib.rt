@@ -7,7 +7,8 @@ ghost use mathlib.Core.Path.{_≡_};
 ghost use Prim.Native.Nat.{_≤_};
 ghost use Rattle.numbers.specs.Checks.{allBelow};
 ghost use Rattle.plan.specs.Limits.{mostLines};
-ghost use Rattle.sender.specs.Sender.{at, counterOk, senderOk, openOf, Ready, refusedWith, wentWith, sendOf, markerFrom};
+ghost use Rattle.plan.specs.Plan.{at};
+ghost use Rattle.sender.specs.Sender.{counterOk, senderOk, openOf, Ready, refusedWith, wentWith, sendOf, markerFrom};
 
 // Entries for lines from the plan's `lines` on are ignored and kept.
 #[repr(C)]

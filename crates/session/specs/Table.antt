@@ -6,11 +6,11 @@ use lib.Dec.{eqb}
 use lib.ListN.{length, getD, take, drop, replicate}
 use Rattle.plan.specs.declared.Plan.{Plan}
 use Rattle.plan.specs.Limits.{mostLines}
-use Rattle.plan.specs.Plan.{planOk}
+use Rattle.plan.specs.Plan.{at, planOk}
 use Rattle.sender.specs.declared.Sender.{Sender}
 use Rattle.sender.specs.declared.Sent.{Sent}
 use Rattle.sender.specs.declared.Sent.the-variants.{Went, Refused}
-use Rattle.sender.specs.Sender.{at, opened, sendOf}
+use Rattle.sender.specs.Sender.{opened, sendOf}
 use Rattle.session.specs.declared.Table.{Table}
 use Rattle.session.specs.Text.{space, lineFeed, Said, numbers, badText, said, decimal}
 

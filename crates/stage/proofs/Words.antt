@@ -9,7 +9,7 @@ use lib.ListN.{length, take, drop}
 use borrow.Author.Tests.{eq-eqb, ne-eqb}
 use Rattle.numbers.specs.Checks.{inRange}
 use Rattle.plan.specs.Limits.{itemHead, mostLines}
-use Rattle.plan.specs.Plan.{quantum}
+use Rattle.plan.specs.Plan.{at, quantum}
 use Rattle.plan.proofs.Laws.{in-range}
 use Rattle.report.specs.declared.Report.{Report}
 use Rattle.report.specs.declared.Report.the-variants as report
@@ -22,7 +22,7 @@ use Rattle.ring.specs.Ring.{onto, held, frontOf}
 use Rattle.receiver.specs.declared.Receiver.{Receiver}
 use Rattle.receiver.specs.declared.Taken.{Taken}
 use Rattle.receiver.specs.declared.Taken.the-variants.{Waiting, Data, Missing, Behind, Refused}
-use Rattle.receiver.specs.Receiver.{at, currentLine, receiverOk, storeFits, ringOf}
+use Rattle.receiver.specs.Receiver.{currentLine, receiverOk, storeFits, ringOf}
 use Rattle.receiver.specs.Taking.{Stepped, stays, afterData, dataStep, reportStep, markerStep, itemStep, frontStep, lineStep, lineOf, refusedWith, takeAt, takeOf}
 use Rattle.receiver.proofs.Laws.{valid}
 use Rattle.stage.specs.Exports.{exportedTaken, kindIn, valueIn, readTaken}

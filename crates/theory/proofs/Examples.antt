@@ -5,7 +5,7 @@ use mathlib.Core.List.{List, [], _∷_, _++_}
 use Prim.Native.Nat.{ℕ}
 use lib.Dec.{eqb}
 use Rattle.theory.specs.Sending.{Plan, better, best, choose, charged, carried}
-use Rattle.theory.specs.System.{Step, send, ask, arrive, lose, take, at, packets, nth, opened, outs}
+use Rattle.theory.specs.System.{Step, send, ask, arrive, lose, at, packets, nth, opened, outs}
 use Rattle.theory.specs.Words.{total, before, toCome, heldBelow, takes}
 use Rattle.theory.specs.FarEnd.{after, bytesOf}
 

@@ -140,10 +140,6 @@ pub near-split : (p : Plan) (h g : List Step) (s : State) → Near p s (h ++ g) 
 near-split p [] g s n = (tt, n)
 near-split p (e ∷ h) g s n = let b = near-split p h g (step p s e) (n .1) in ((n .0, b .0), b .1)
 
-pub near-join : (p : Plan) (h g : List Step) (s : State) → Near p s h × Near p (run p s h) g → Near p s (h ++ g)
-near-join p [] g s n = n .1
-near-join p (e ∷ h) g s n = (n .0 .0, near-join p h g (step p s e) (n .0 .1, n .1))
-
 pub agree-split : (p : Plan) (bytes : ℕ → List ℕ) (h g : List Step) (s : State) → Agree p bytes s (h ++ g)
     → Agree p bytes s h × Agree p bytes (run p s h) g
 agree-split p bytes [] g s a = (tt, a)

@@ -5,7 +5,8 @@ use mathlib.Core.Path.{_≡_}
 use lib.ListN.{length}
 use Rattle.theory.specs.Sending.{Plan, rounds}
 use Rattle.theory.specs.Demands.{Fit}
-use Rattle.theory.specs.System.{Item, packet, marker, Line, State, opened, Step, send, ask, arrive, lose, take, positions, current, step, run, packets, nth, sizes, Out, outs}
+use Rattle.theory.specs.System.{Item, packet, marker, Line, State, opened, Step, send, ask, arrive, lose, take, positions, current, step}
+use Rattle.theory.specs.System.{run, packets, nth, sizes, Out, outs}
 use Rattle.theory.specs.Words.{Beginning, total, before, Yielded, NoneBehind, HasMarker, NoPacket, toCome, heldBelow, takes}
 
 -- the state after some steps from the opening, and the line that a take looks at

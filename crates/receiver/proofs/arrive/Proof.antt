@@ -5,7 +5,7 @@ use native.Mathlib.Omega.{arith}
 use Prim.Native.Nat.{_+_, _≤_}
 use lib.ListN.{length}
 use Rattle.plan.specs.Limits.{mostStore, itemHead}
-use Rattle.receiver.specs.Receiver.{at}
+use Rattle.plan.specs.Plan.{at}
 use Rattle.receiver.proofs.Arrivals.{no-room, item-ends, is-stored}
 use Rattle.receiver.proofs.Stores.{Place, place}
 use Rattle.receiver.proofs.arrive.Statement.{statement}

@@ -4,7 +4,7 @@ use native.Mathlib.Omega.{arith}
 use mathlib.Core.Path.{ap, _∙_}
 use Rattle.report.specs.Report.{ahead}
 use Rattle.theory.proofs.Choose.{best-wins}
-use Rattle.receiver.specs.Receiver.{at}
+use Rattle.plan.specs.Plan.{at}
 use Rattle.receiver.proofs.Taking.{still-at, moved-on}
 use Rattle.receiver.proofs.round_now.Statement.{statement}
 use Rattle.receiver.proofs.round_now.Tie as tie

@@ -5,7 +5,8 @@ use native.Mathlib.Omega.{arith}
 use mathlib.Core.Bool.{true}
 use mathlib.Core.Path.{_≡_, ap, sym, _∙_}
 use Rattle.plan.proofs.Laws.{InRange, in-range}
-use Rattle.sender.specs.Sender.{at, senderOk, wentWith}
+use Rattle.plan.specs.Plan.{at}
+use Rattle.sender.specs.Sender.{senderOk, wentWith}
 use Rattle.sender.proofs.Laws.{Valid, valid, state-refused, none-refused, long-refused, uncovered-refused, covered-went, ready}
 use Rattle.sender.proofs.send.Statement.{statement}
 use Rattle.sender.proofs.send.Tie as tie
