@@ -1,26 +1,14 @@
 /* Calls what include/stripes.h declares and compares every answer, and every byte of the output, with what it must be.
  * Each number that a call can answer is provoked, but 10, which no state brings about. Prints the session's figures, then
- * the count of checks; exits with 1 where one of them does not hold. */
+ * the count of checks; exits with 1 where one of them does not hold. Every check is made twice: lent.h says how. */
 #include "stripes.h"
 
-#include <stdio.h>
-#include <string.h>
+#include "lent.h"
 
 enum { ROOM = 16, UNTOUCHED = 0xEE };
 
 /* 2 lines, Max 500, K 1, quanta 1000 and 500 */
 static const uint8_t session_record[] = { 0x02, 0xF4, 0x03, 0x01, 0xE8, 0x07, 0xF4, 0x03 };
-
-static unsigned checks, failures;
-
-static void check(int holds, const char *what)
-{
-    checks++;
-    if (!holds) {
-        failures++;
-        printf("FAILED: %s\n", what);
-    }
-}
 
 static void print_bytes(const uint8_t *bytes, size_t n)
 {
@@ -184,10 +172,12 @@ int main(void)
     printf("marker on line 1 at round 2, counter 350:");
     print_bytes(out, stripes_write_marker(1, 2, 350, out, sizeof out));
 
-    markers();
-    plans();
-    session();
-    sender_refusals();
+    for (exact = 0; exact < 2; exact++) {
+        markers();
+        plans();
+        session();
+        sender_refusals();
+    }
     printf("C driver: %u checks, %u failed\n", checks, failures);
     return failures != 0;
 }

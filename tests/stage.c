@@ -1,10 +1,9 @@
 /* Plays the session on paper through both archives, as include/stripes.h and include/stage.h declare them, and provokes each number that a
  * call of the stage can answer; a refusal must leave receiver, store and output as they were. Prints the count of checks; exits with 1 where
- * one of them does not hold. */
+ * one of them does not hold. Every check is made twice: lent.h says how. */
 #include "stage.h"
 
-#include <stdio.h>
-#include <string.h>
+#include "lent.h"
 
 /* A line's store: enough for all of a session; and, for the refusals, two items of 503 and 500 bytes. */
 enum { SIZE = 3000, STORE = 2 * SIZE, TIGHT = 1003, ROOM = 500, PACKETS = 8 };
@@ -13,18 +12,8 @@ enum { SIZE = 3000, STORE = 2 * SIZE, TIGHT = 1003, ROOM = 500, PACKETS = 8 };
 static const uint8_t record[] = { 0x02, 0xF4, 0x03, 0x01, 0xE8, 0x07, 0xF4, 0x03 };
 static const size_t lengths[PACKETS] = { 400, 500, 300, 450, 200, 500, 500, 100 };
 
-static unsigned checks, failures;
 static struct stage_receiver receiver;
 static uint8_t store[STORE], packet[ROOM + 1], out[ROOM];
-
-static void check(int holds, const char *what)
-{
-    checks++;
-    if (!holds) {
-        failures++;
-        printf("FAILED: %s\n", what);
-    }
-}
 
 static void opened(uint32_t size)
 {
@@ -180,9 +169,11 @@ static void refusals(void)
 
 int main(void)
 {
-    sessions();
-    run();
-    refusals();
+    for (exact = 0; exact < 2; exact++) {
+        sessions();
+        run();
+        refusals();
+    }
     printf("stage: %u checks, %u failed\n", checks, failures);
     return failures != 0;
 }
