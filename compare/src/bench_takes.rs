@@ -1,19 +1,16 @@
-//! Times the proved take loop against the plain one: the same stored sessions of sixteen lines, the same machine, both optimised, buffers
-//! cleared, turn about in one run. Prints the medians and their ratios, also for the archive's takes called one by one.
+//! Times the proved take loop against the plain one: the same stored sessions, the same machine, both optimised, buffers cleared, turn about
+//! in one run. Prints rows of the benchmark's table; those of the archive's takes called one by one stand beside the same plain loop.
 
-use crate::bench::median;
+use crate::bench::{plan, row, timed, Range, LINES, RANGES, TURNS};
 use crate::chance::Chance;
-use crate::paper::{written, Sender};
+use crate::paper::Sender;
 use crate::stage::Receiver;
 use crate::{archive, plain};
 use std::hint::black_box;
-use std::time::Instant;
 
-const LINES: usize = 16;
+/// A line's store; and how many of them the sessions of a turn have among them, so that a turn is as long with few lines as with many.
 const SIZE: usize = 65_536;
-const STORE: usize = LINES * SIZE;
-const SESSIONS: u64 = 8;
-const TURNS: usize = 25;
+const RINGS: usize = 128;
 
 type Takes = fn(&mut Receiver, &[u8], &mut [u8], &mut [u64]) -> usize;
 
@@ -22,6 +19,20 @@ struct Stored {
     receiver: Receiver,
     store: Vec<u8>,
     items: usize,
+}
+
+/// What a side has spent in a turn.
+#[derive(Clone, Copy, Default)]
+struct Spent {
+    time: f64,
+    takes: f64,
+}
+
+impl Spent {
+    fn add(&mut self, more: Spent) {
+        self.time += more.time;
+        self.takes += more.takes;
+    }
 }
 
 /// What a side works on and leaves.
@@ -35,8 +46,9 @@ struct Desk {
 }
 
 impl Desk {
-    fn new() -> Desk {
-        Desk { receiver: Receiver::default(), store: vec![0; STORE], out: vec![0; STORE], log: Vec::new(), done: 0 }
+    fn new(lines: usize) -> Desk {
+        let bytes = || vec![0; lines * SIZE];
+        Desk { receiver: Receiver::default(), store: bytes(), out: bytes(), log: Vec::new(), done: 0 }
     }
 
     /// The session laid out anew, output and log cleared: each side finds the same, in memory and in the caches.
@@ -52,28 +64,26 @@ impl Desk {
         self.done = takes(&mut self.receiver, &self.store, &mut self.out, &mut self.log);
     }
 
-    /// Nanoseconds a take, of one run through a stored session.
-    fn time(&mut self, stored: &Stored, takes: Takes) -> f64 {
+    /// The nanoseconds of one run through a stored session, and its takes.
+    fn time(&mut self, stored: &Stored, takes: Takes) -> Spent {
         self.lay_out(stored);
-        let start = Instant::now();
-        black_box(&mut *self).drain(takes);
-        let spent = start.elapsed().as_nanos() as f64;
-        spent / black_box(&*self).done as f64
+        let time = timed(|| black_box(&mut *self).drain(takes));
+        Spent { time, takes: black_box(&*self).done as f64 }
     }
 }
 
-fn ends() -> (Sender, Receiver) {
-    let plan: Vec<u8> = [LINES, 1500, 4].into_iter().chain([3000; LINES]).flat_map(|number| written(number as u128)).collect();
+fn ends(lines: usize) -> (Sender, Receiver) {
+    let plan = plan(lines, 4);
     let (sender, receiver) = (Sender::open(&plan), Receiver::open(&plan, SIZE as u32));
     assert_eq!((sender.0, receiver.0), (0, 0));
     (sender.1, receiver.1)
 }
 
 /// Sends until a packet finds no room, with the markers that are due; that packet is kept for the next filling.
-fn fill(sender: &mut Sender, stored: &mut Stored, packet: &mut (u32, Vec<u8>), chance: &mut Chance, (low, high): (u64, u64)) {
+fn fill(sender: &mut Sender, stored: &mut Stored, packet: &mut (u32, Vec<u8>), chance: &mut Chance, (low, high): Range) {
     while packet.1.is_empty() || stored.receiver.data(packet.0 & 15, &packet.1, &mut stored.store) == 0 {
         stored.items += usize::from(!packet.1.is_empty());
-        for line in (0..LINES as u32).filter(|_| packet.0 & 16 != 0) {
+        for line in (0..sender.plan.lines).filter(|_| packet.0 & 16 != 0) {
             let (length, record) = sender.marker(line, &[0; 9]);
             stored.items += usize::from(stored.receiver.marker(line, &record[..length as usize], &mut stored.store) == 0);
         }
@@ -83,14 +93,14 @@ fn fill(sender: &mut Sender, stored: &mut Stored, packet: &mut (u32, Vec<u8>), c
 }
 
 /// Filled, drained and filled again, so that the heads lie anywhere.
-fn stored(seed: u64, range: (u64, u64)) -> Stored {
-    let chance = &mut Chance::new(seed);
-    let (mut sender, receiver) = ends();
-    let mut stored = Stored { receiver, store: vec![0; STORE], items: 0 };
+fn stored(seed: usize, lines: usize, range: Range) -> Stored {
+    let chance = &mut Chance::new(2 * seed as u64 + 1); // odd, for a seed and the one above it can be the same
+    let (mut sender, receiver) = ends(lines);
+    let mut stored = Stored { receiver, store: vec![0; lines * SIZE], items: 0 };
     let mut packet = (0, Vec::new());
     fill(&mut sender, &mut stored, &mut packet, chance, range);
     let mut log = vec![0; stored.items];
-    let done = stored.receiver.takes(&stored.store, &mut vec![0; STORE], &mut log);
+    let done = stored.receiver.takes(&stored.store, &mut vec![0; lines * SIZE], &mut log);
     stored.items -= done;
     fill(&mut sender, &mut stored, &mut packet, chance, range);
     stored
@@ -113,9 +123,9 @@ fn one_by_one(receiver: &mut Receiver, store: &[u8], out: &mut [u8], log: &mut [
 }
 
 /// Every side must leave the same state, store, output and log.
-fn check(stored: &Stored, sides: [Takes; 3]) {
+fn check(stored: &Stored, lines: usize, sides: [Takes; 3]) {
     let desks = sides.map(|takes| {
-        let mut desk = Desk::new();
+        let mut desk = Desk::new(lines);
         desk.lay_out(stored);
         desk.drain(takes);
         desk
@@ -123,26 +133,33 @@ fn check(stored: &Stored, sides: [Takes; 3]) {
     assert!(desks[0].done > 0 && desks.iter().all(|desk| *desk == desks[0]), "the sides leave the same");
 }
 
-fn compare(range: (u64, u64)) {
-    let sessions: Vec<Stored> = (1..=SESSIONS).map(|seed| stored(seed, range)).collect();
-    let sides: [Takes; 3] = [archive::takes, plain::takes, one_by_one];
-    sessions.iter().for_each(|session| check(session, sides));
-    let mut desk = Desk::new();
-    let mut times = [const { Vec::new() }; 3];
-    for turn in 0..TURNS {
-        for session in &sessions {
-            for side in (0..3).map(|at| (turn + at) % 3) {
-                times[side].push(desk.time(session, sides[side]));
-            }
+/// One turn: every session by every side. Nanoseconds a take, for each side.
+fn turn(number: usize, desk: &mut Desk, sessions: &[Stored], sides: [Takes; 3]) -> [f64; 3] {
+    let mut spent = [Spent::default(); 3];
+    for session in sessions {
+        for side in (0..3).map(|at| (number + at) % 3) {
+            spent[side].add(desk.time(session, sides[side]));
         }
     }
-    let [proved, plain, single] = times.map(median);
-    let (low, high) = range;
-    println!("take, {LINES} lines, {low} to {high} bytes, runs: proved {proved:.1} ns, plain {plain:.1} ns, ratio {:.2}", proved / plain);
-    println!("take, {LINES} lines, {low} to {high} bytes, one by one: proved {single:.1} ns, plain run {plain:.1} ns, ratio {:.2}", single / plain);
+    spent.map(|side| side.time / side.takes)
+}
+
+/// Nanoseconds a take of every turn, for each side.
+fn measured(lines: usize, range: Range) -> [Vec<f64>; 3] {
+    let sessions: Vec<Stored> = (1..=RINGS / lines).map(|seed| stored(seed, lines, range)).collect();
+    let sides: [Takes; 3] = [archive::takes, plain::takes, one_by_one];
+    sessions.iter().for_each(|session| check(session, lines, sides));
+    let mut desk = Desk::new(lines);
+    let times: Vec<[f64; 3]> = (0..TURNS).map(|number| turn(number, &mut desk, &sessions, sides)).collect();
+    [0, 1, 2].map(|side| times.iter().map(|turn| turn[side]).collect())
 }
 
 pub fn takes() {
-    compare((64, 1500));
-    compare((64, 128));
+    let cases: Vec<(usize, Range)> = LINES.into_iter().flat_map(|lines| RANGES.map(|range| (lines, range))).collect();
+    let times: Vec<[Vec<f64>; 3]> = cases.iter().map(|(lines, range)| measured(*lines, *range)).collect();
+    for (call, side) in [("take loop", 0), ("take, one by one", 2)] {
+        for ((lines, range), times) in cases.iter().zip(&times) {
+            row(call, *lines, *range, times[side].clone(), times[1].clone());
+        }
+    }
 }
