@@ -1,9 +1,9 @@
-// Links the archives that `rt staticlib driver` and `rt staticlib stage` write.
+// Links the archives that `rt staticlib driver` and `rt staticlib stage` write into the comparison. The recorder links none.
 fn main() {
     let root = std::env::var("CARGO_MANIFEST_DIR").expect("cargo sets it");
-    println!("cargo:rustc-link-search=native={root}/../target/staticlib");
-    for archive in ["driver", "stage"] {
-        println!("cargo:rustc-link-lib=static={archive}");
-        println!("cargo:rerun-if-changed=../target/staticlib/lib{archive}.a");
+    for archive in ["stage", "driver"] {
+        let path = format!("{root}/../target/staticlib/lib{archive}.a");
+        println!("cargo:rustc-link-arg-bin=compare={path}");
+        println!("cargo:rerun-if-changed={path}");
     }
 }

@@ -1,6 +1,7 @@
 //! The session on paper with packet 2 lost, as the specification tells it: once with the markers after packet 5, once without markers.
 
-use crate::differs;
+use crate::cases::{begin, differs};
+use crate::counts::Counts;
 use crate::pair::{opened, Pair};
 use crate::paper::Sender;
 use crate::taking::Outcome;
@@ -41,7 +42,9 @@ fn session(with_markers: bool) -> (String, u32) {
     (all.join(", "), pair.receiver.used.iter().sum())
 }
 
-pub fn compare() {
+/// The seed changes nothing: it is the session of the paper.
+pub fn compare(seed: u64, _: &mut Counts) {
+    begin("example", seed);
     for (with_markers, expected) in [
         (true, ("1, 3, line 0 misses 500, 4, 5, 6, 7, line 1 misses 0, 8, waiting on 1", 0)),
         (false, ("1, 3, 6, 4, 5, 7, waiting on 0", 103)),

@@ -2,9 +2,9 @@
 //! the data that arrive by chance, good and bad.
 
 use crate::chance::Chance;
-use crate::paper::written;
+use crate::paper::record;
+use crate::records::{damaged, noise};
 use crate::stage::Receiver;
-use crate::{damaged, noise};
 
 /// A word for another: near it, far from it, at the end of some range, or any.
 fn other_word(was: u32, chance: &mut Chance) -> u32 {
@@ -21,21 +21,24 @@ fn other_word(was: u32, chance: &mut Chance) -> u32 {
     }
 }
 
-pub fn change_word(receiver: &mut Receiver, chance: &mut Chance) {
-    let at = chance.between(0, 15) as usize;
-    let word = match chance.between(0, 9) {
-        0 => &mut receiver.plan.lines,
-        1 => &mut receiver.plan.max,
-        2 => &mut receiver.plan.interval,
-        3 => &mut receiver.plan.quanta[at],
-        4 => &mut receiver.size,
-        5 => &mut receiver.round,
-        6 => &mut receiver.rounds[at],
-        7 => &mut receiver.counters[at],
-        8 => &mut receiver.heads[at],
-        _ => &mut receiver.used[at],
+/// One field changed, of a line that the plan has where it is a line's, and which.
+pub fn change_field(receiver: &mut Receiver, chance: &mut Chance) -> &'static str {
+    let lines = if chance.one_in(8) { 16 } else { u64::from(receiver.plan.lines.clamp(1, 16)) };
+    let at = chance.between(0, lines - 1) as usize;
+    let (word, name) = match chance.between(0, 9) {
+        0 => (&mut receiver.plan.lines, "lines"),
+        1 => (&mut receiver.plan.max, "max"),
+        2 => (&mut receiver.plan.interval, "interval"),
+        3 => (&mut receiver.plan.quanta[at], "quanta"),
+        4 => (&mut receiver.size, "size"),
+        5 => (&mut receiver.round, "round"),
+        6 => (&mut receiver.rounds[at], "rounds"),
+        7 => (&mut receiver.counters[at], "counters"),
+        8 => (&mut receiver.heads[at], "heads"),
+        _ => (&mut receiver.used[at], "used"),
     };
     *word = other_word(*word, chance);
+    name
 }
 
 /// All rounds moved on alike, to the wrap or anywhere; now and then one of them 2^31 or nearly so from the current one.
@@ -51,8 +54,9 @@ pub fn move_rounds(receiver: &mut Receiver, chance: &mut Chance) {
     }
 }
 
-/// A marker for a line, mostly good: its round near the line's or about 2^31 from it, its counter near the line's or the ends of its range.
-pub fn marker(receiver: &Receiver, line: usize, chance: &mut Chance) -> Vec<u8> {
+/// A marker for a line, mostly good: its round near the line's or about 2^31 from it, its counter near the line's or the ends of its range; and
+/// whether it is whole, damaged or noise.
+pub fn marker(receiver: &Receiver, line: usize, chance: &mut Chance) -> (Vec<u8>, &'static str) {
     let (round, counter, quantum) = (receiver.rounds[line % 16], receiver.counters[line % 16], receiver.plan.quanta[line % 16]);
     let ahead = match chance.between(0, 4) {
         0 | 1 => 0,
@@ -66,11 +70,11 @@ pub fn marker(receiver: &Receiver, line: usize, chance: &mut Chance) -> Vec<u8> 
         _ => chance.near(1, u64::from(quantum.max(1))) as u32,
     };
     let named = if chance.one_in(8) { chance.near(0, 15) } else { line as u64 };
-    let record = [named, u64::from(round.wrapping_add(ahead)), u64::from(counter)].iter().flat_map(|number| written(u128::from(*number))).collect();
+    let whole = record(&[named, u64::from(round.wrapping_add(ahead)), u64::from(counter)]);
     match chance.between(0, 15) {
-        0..=2 => damaged(record, chance),
-        3 => noise(chance),
-        _ => record,
+        0..=2 => damaged(whole, chance),
+        3 => (noise(chance), "noise"),
+        _ => (whole, "whole"),
     }
 }
 
@@ -108,7 +112,7 @@ pub fn put(receiver: &Receiver, line: usize, bytes: &[u8], store: &mut [u8]) {
 pub fn forge(receiver: &mut Receiver, store: &mut [u8], chance: &mut Chance) {
     let line = some_line(receiver, chance);
     let is_marker = chance.one_in(2);
-    let bytes = if is_marker { marker(receiver, line, chance) } else { data(receiver, chance) };
+    let bytes = if is_marker { marker(receiver, line, chance).0 } else { data(receiver, chance) };
     let kind = if chance.one_in(12) { chance.near(0, 2) as u8 } else { u8::from(is_marker) };
     let length = if chance.one_in(12) { chance.near(0, 9001) as u16 } else { bytes.len() as u16 };
     let item: Vec<u8> = [kind, length as u8, (length >> 8) as u8].into_iter().chain(bytes).collect();
@@ -123,4 +127,15 @@ pub fn forge(receiver: &mut Receiver, store: &mut [u8], chance: &mut Chance) {
             _ => needed.min(most),
         } as u32;
     }
+}
+
+/// A line's whole ring as noise, small numbers often among it, and any of it used.
+pub fn fill_with_noise(receiver: &mut Receiver, store: &mut [u8], chance: &mut Chance) {
+    let line = some_line(receiver, chance) % receiver.plan.lines.max(1) as usize;
+    let size = receiver.size as usize;
+    for byte in &mut store[line * size..(line + 1) * size] {
+        *byte = if chance.one_in(2) { chance.between(0, 2) as u8 } else { chance.next() as u8 };
+    }
+    receiver.heads[line] = chance.between(0, size as u64 - 1) as u32;
+    receiver.used[line] = chance.near(0, size as u64).min(size as u64) as u32;
 }

@@ -1,9 +1,10 @@
 //! A receiver of each side, the archive's and the second program's. Every call goes to both; then answer, state, store, output and log must
 //! be equal. Behind each output and log lie a few places that are not lent, and must stay.
 
+use crate::cases::differs;
 use crate::paper::Plan;
 use crate::stage::Receiver;
-use crate::{archive, differs, plain};
+use crate::{plain, proved};
 
 const BEHIND: usize = 8;
 
@@ -24,7 +25,7 @@ fn unopened() -> Receiver {
 /// The answer of an opening, and the state it leaves.
 pub fn opened(record: &[u8], size: u32) -> (u32, Receiver) {
     let mut receiver = unopened();
-    let proved = (archive::open_receiver(&mut receiver, record, size), receiver);
+    let proved = (proved::open_receiver(&mut receiver, record, size), receiver);
     let second = Receiver::open(record, size);
     if proved != second {
         differs("opening a receiver", format!("{record:02x?} {size}: {proved:?} and {second:?}"));
@@ -37,7 +38,7 @@ fn first_difference<T: PartialEq>(one: &[T], other: &[T]) -> Option<usize> {
 }
 
 /// The same again, with places behind it that are not lent.
-fn longer<T: Copy>(before: &[T], behind: T) -> Vec<T> {
+pub fn longer<T: Copy>(before: &[T], behind: T) -> Vec<T> {
     before.iter().copied().chain([behind; BEHIND]).collect()
 }
 
@@ -68,14 +69,14 @@ impl Pair {
 
     pub fn data(&mut self, line: u32, bytes: &[u8]) -> u32 {
         let before = self.receiver;
-        let proved = archive::data_arrives(&mut self.receiver, line, bytes, &mut self.store);
+        let proved = proved::data_arrives(&mut self.receiver, line, bytes, &mut self.store);
         let second = self.second.data(line, bytes, &mut self.second_store);
         self.hold(&before, &|| format!("data on line {line}, length {}", bytes.len()), proved, second)
     }
 
     pub fn marker(&mut self, line: u32, bytes: &[u8]) -> u32 {
         let before = self.receiver;
-        let proved = archive::marker_arrives(&mut self.receiver, line, bytes, &mut self.store);
+        let proved = proved::marker_arrives(&mut self.receiver, line, bytes, &mut self.store);
         let second = self.second.marker(line, bytes, &mut self.second_store);
         self.hold(&before, &|| format!("a marker on line {line}, {bytes:02x?}"), proved, second)
     }
@@ -84,7 +85,7 @@ impl Pair {
     pub fn take(&mut self, out: &[u8]) -> (u64, Vec<u8>) {
         let before = self.receiver;
         let (mut one, mut other) = (longer(out, 0xEE), longer(out, 0xEE));
-        let proved = archive::take(&mut self.receiver, &self.store, &mut one[..out.len()]);
+        let proved = proved::take(&mut self.receiver, &self.store, &mut one[..out.len()]);
         let second = self.second.take(&self.second_store, &mut other[..out.len()]).word();
         let word = self.hold(&before, &|| format!("a take into {} bytes", out.len()), proved, second);
         if one != other {
@@ -97,7 +98,7 @@ impl Pair {
     /// A run of takes; the benchmark's loop must do the same as the two sides.
     pub fn takes(&mut self, out: &[u8], log: &[u64]) -> Run {
         let (before, mut state) = (self.receiver, self.receiver);
-        let mut proved = run(archive::takes, &mut self.receiver, &self.store, out, log);
+        let mut proved = run(proved::takes, &mut self.receiver, &self.store, out, log);
         let second = run(Receiver::takes, &mut self.second, &self.second_store, out, log);
         let plain = run(plain::takes, &mut state, &self.store, out, log);
         self.hold(&before, &|| format!("{} takes into {} bytes", log.len(), out.len()), proved.0, second.0);

@@ -34,6 +34,11 @@ pub fn written(number: u128) -> Vec<u8> {
     }
 }
 
+/// A record: its numbers one behind another.
+pub fn record(numbers: &[u64]) -> Vec<u8> {
+    numbers.iter().flat_map(|number| written(u128::from(*number))).collect()
+}
+
 /// The number at the front of the bytes, and the bytes behind it. Only the shortest form of a number below 2^32 is one.
 pub fn read(bytes: &[u8]) -> Option<(u128, &[u8])> {
     let length = bytes.iter().position(|byte| byte & 0x80 == 0)? + 1;
@@ -203,48 +208,91 @@ impl Sender {
 pub struct Definition {
     plan: Plan,
     carried: [u128; 16],
+    /// Of these the first so many were over at the opening.
     full_rounds: u128,
+    rounds_before: u128,
 }
 
 impl Definition {
-    pub fn open(plan: Plan) -> Self {
-        Definition { plan, carried: [0; 16], full_rounds: 0 }
+    /// From the opening, where the round is 1; or from the moment at which each line has carried its quantum so often that the round is this.
+    pub fn open_at(plan: Plan, round: u32) -> Self {
+        let rounds_before = u128::from(round) - 1;
+        let carried = plan.quanta.map(|quantum| rounds_before * u128::from(quantum));
+        Definition { plan, carried, full_rounds: rounds_before, rounds_before }
+    }
+
+    fn lines(&self) -> std::ops::Range<usize> {
+        0..self.plan.lines as usize
+    }
+
+    fn quantum(&self, line: usize) -> u128 {
+        u128::from(self.plan.quanta[line])
     }
 
     fn round(&self, line: usize) -> u128 {
-        self.carried[line] / u128::from(self.plan.quanta[line]) + 1
+        self.carried[line] / self.quantum(line) + 1
+    }
+
+    fn counter(&self, line: usize) -> u128 {
+        self.quantum(line) - self.carried[line] % self.quantum(line)
+    }
+
+    /// Where a line stands: what it has carried.
+    pub fn position(&self, line: usize) -> u128 {
+        self.carried[line]
+    }
+
+    /// Whether every line's round is this or later.
+    pub fn rounds_from(&self, round: u128) -> bool {
+        self.lines().all(|line| self.round(line) >= round)
     }
 
     /// Lowest round, lowest number on a tie.
     fn choice(&self) -> usize {
-        (0..self.plan.lines as usize).min_by_key(|line| self.round(*line)).expect("a plan has a line")
+        self.lines().min_by_key(|line| self.round(*line)).expect("a plan has a line")
     }
 
-    /// The line of a packet, 16 added when it ends a full round whose number is a multiple of the interval.
+    /// The line of a packet, 16 added when it ends a full round whose number since the opening is a multiple of the interval; or the refusal.
     pub fn send(&mut self, length: usize) -> u32 {
+        if length == 0 || length > self.plan.max as usize {
+            return REFUSED + LENGTH;
+        }
         let line = self.choice();
         let before = self.round(line);
         self.carried[line] += length as u128;
-        let mut answer = line as u32;
-        if self.round(line) > before && self.choice() == 0 {
-            self.full_rounds += 1;
-            if self.full_rounds % u128::from(self.plan.interval) == 0 {
-                answer += 16;
-            }
-            for each in 0..self.plan.lines as usize {
-                let quanta = self.full_rounds * u128::from(self.plan.quanta[each]);
-                assert!(quanta <= self.carried[each] && self.carried[each] < quanta + u128::from(self.plan.max), "the share of line {each}");
-            }
+        if self.round(line) == before || self.choice() != 0 {
+            return line as u32;
         }
-        answer
+        self.full_rounds += 1;
+        self.check_share();
+        line as u32 + if self.left_of_interval() == u128::from(self.plan.interval) { 16 } else { 0 }
+    }
+
+    /// At the end of a full round each line has carried as many quanta, and less than one largest packet more.
+    fn check_share(&self) {
+        for line in self.lines() {
+            let quanta = self.full_rounds * self.quantum(line);
+            assert!(quanta <= self.carried[line] && self.carried[line] < quanta + u128::from(self.plan.max), "the share of line {line}");
+        }
+    }
+
+    /// How many full rounds there are still to come until markers are due.
+    fn left_of_interval(&self) -> u128 {
+        let interval = u128::from(self.plan.interval);
+        interval - (self.full_rounds - self.rounds_before) % interval
+    }
+
+    /// What a marker of the line holds.
+    pub fn marker(&self, line: usize) -> Vec<u8> {
+        [line as u128, self.round(line) % (1 << 32), self.counter(line)].iter().flat_map(|number| written(*number)).collect()
     }
 
     /// What a sender's state must show.
     pub fn shows(&self, sender: &Sender) -> bool {
         sender.line as usize == self.choice()
-            && (0..self.plan.lines as usize).all(|line| {
-                let quantum = u128::from(self.plan.quanta[line]);
-                u128::from(sender.rounds[line]) == self.round(line) % (1 << 32) && u128::from(sender.counters[line]) == quantum - self.carried[line] % quantum
+            && u128::from(sender.countdown) == self.left_of_interval()
+            && self.lines().all(|line| {
+                u128::from(sender.rounds[line]) == self.round(line) % (1 << 32) && u128::from(sender.counters[line]) == self.counter(line)
             })
     }
 }

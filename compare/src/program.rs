@@ -1,6 +1,8 @@
 //! Runs the program `stripes` on texts by chance, valid and damaged, its input cut into pieces by chance, and compares what it prints.
 
+use crate::cases::{begin, differs};
 use crate::chance::Chance;
+use crate::counts::Counts;
 use crate::text;
 use std::io::{Read, Write};
 use std::process::{Command, Stdio};
@@ -66,21 +68,17 @@ fn damaged(mut text: Vec<u8>, chance: &mut Chance) -> Vec<u8> {
     text
 }
 
-pub fn compare(chance: &mut Chance) {
-    let (mut texts, mut refused) = (0, 0);
-    for turn in 0..600 {
-        let mut input = session(chance);
-        if turn % 2 == 1 {
-            input = damaged(input, chance);
-        }
-        let pieces: Vec<usize> = (0..chance.between(0, 6)).map(|_| chance.between(1, 200) as usize).collect();
-        let (proved, second) = (printed(&input, &pieces), text::table(&input));
-        if proved != second.as_bytes() {
-            println!("DIFFERENT: stripes on {:?}:\n{}and\n{second}", String::from_utf8_lossy(&input), String::from_utf8_lossy(&proved));
-            std::process::exit(1);
-        }
-        texts += 1;
-        refused += usize::from(second.contains("refused"));
+pub fn texts(seed: u64, counts: &mut Counts) {
+    let chance = &mut begin("texts", seed);
+    let whole = chance.one_in(2);
+    let text = session(chance);
+    let input = if whole { text } else { damaged(text, chance) };
+    let pieces: Vec<usize> = (0..chance.between(0, 6)).map(|_| chance.between(1, 200) as usize).collect();
+    let (proved, second) = (printed(&input, &pieces), text::table(&input));
+    if proved != second.as_bytes() {
+        let (input, proved) = (String::from_utf8_lossy(&input), String::from_utf8_lossy(&proved));
+        differs("stripes", format!("on {input:?}:\n{proved}and\n{second}"));
     }
-    println!("compare: stripes on {texts} texts, {refused} of them refused somewhere: no difference");
+    counts.count("texts for stripes", if whole { "whole" } else { "damaged" });
+    counts.add("texts for stripes", "refused somewhere", u64::from(second.contains("refused")));
 }

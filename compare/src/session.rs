@@ -1,18 +1,35 @@
-//! A session of both ends in its parts (play.rs plays it): the archive's sender, lines that are queues and may lose, and a pair of receivers.
-//! Beside them stands a model of what each line holds and has lost, which says what every take must hand out or report.
+//! A session of both ends in its parts (play.rs plays it): a sender, lines that are queues and may lose, and a pair of receivers. Beside them
+//! stand both ends by positions, which say what every call must answer, and what each line has lost, which says what every marker must report.
 
+use crate::cases::differs;
 use crate::chance::Chance;
+use crate::counts::Counts;
 use crate::pair::{opened, Pair};
-use crate::paper::{written, Sender};
-use crate::receiving::Tally;
-use crate::{archive, differs};
+use crate::paper::record;
+use crate::positions::FarEnd;
+use crate::sending::{highest, Booth, LOWEST};
+use crate::taking::Outcome;
 use std::collections::VecDeque;
 
+const BOOTH: &str = "in them, at the booth";
+const ON_LINES: &str = "in them, on the lines";
+
+#[derive(Clone)]
 pub enum Item {
     /// By its number in sent order.
     Packet(usize),
-    /// Its record; once it is stored, the bytes lost before it that no marker before it reports; whether its line loses nothing behind it.
-    Marker { record: Vec<u8>, missing: u64, mends: bool },
+    Marker(Mark),
+}
+
+/// A marker's record and where its sender stood; once it is stored, the bytes lost before it that no marker before it reports; whether its line
+/// loses nothing behind it; whether it has come before.
+#[derive(Clone)]
+pub struct Mark {
+    record: Vec<u8>,
+    position: u128,
+    missing: u64,
+    mends: bool,
+    again: bool,
 }
 
 #[derive(Default)]
@@ -23,11 +40,16 @@ pub struct Line {
     /// One item in so many is lost.
     pub loses: Option<u64>,
     pub mended: bool,
+    /// The last marker that was taken.
+    yielded: Option<Mark>,
 }
 
 pub struct Session {
-    pub sender: Sender,
+    pub booth: Booth,
     pub pair: Pair,
+    pub far: FarEnd,
+    /// The store as it was at the opening.
+    pub before: Vec<u8>,
     pub lines: Vec<Line>,
     pub packets: Vec<Vec<u8>>,
     pub handed: Vec<usize>,
@@ -38,148 +60,235 @@ pub struct Session {
 }
 
 /// A plan whose rounds mostly pass fast.
-fn plan(chance: &mut Chance) -> Vec<u8> {
-    let lines = chance.between(1, 16);
-    let most = if chance.one_in(6) { 9000 } else { 200 };
-    let max = chance.between(64, most);
+fn plan(chance: &mut Chance) -> Vec<u64> {
+    let lines = chance.cornered(1, 16, 16);
+    let most = if chance.one_in(8) { 9000 } else { 200 };
+    let largest = if chance.one_in(3) { 9000 } else { most };
+    let max = chance.cornered(64, most, largest);
     let widest = if chance.one_in(8) { 1_048_576 } else { max * chance.between(1, 4) };
-    let mut all = vec![lines, max, chance.between(1, 6)];
-    all.extend((0..lines).map(|_| chance.between(max, widest)));
-    all.iter().flat_map(|number| written(u128::from(*number))).collect()
+    let mut all = vec![lines, max, chance.cornered(1, 6, 65535)];
+    let highest = if chance.one_in(4) { 1_048_576 } else { widest };
+    all.extend((0..lines).map(|_| chance.cornered(max, widest, highest)));
+    all
 }
 
 /// Mostly small, so that rings fill and wrap.
 fn store_size(max: u64, chance: &mut Chance) -> u64 {
-    let most = match chance.between(0, 19) {
-        0 => 65536,
-        1..=6 => max + 12,
-        7..=13 => 2 * max,
+    let most = match chance.between(0, 99) {
+        0 => return 65536,
+        1..=3 => 65536,
+        4..=11 => max + 3,
+        12..=30 => max + 12,
+        31..=65 => 2 * max,
         _ => 6 * max,
     };
     chance.between(max + 3, most.clamp(max + 3, 65536))
 }
 
+/// What both ends open on: the plan record, and S.
+fn opening(chance: &mut Chance) -> (Vec<u8>, u32) {
+    let (plan, size) = match chance.between(0, 499) {
+        0..=9 => (LOWEST.to_vec(), 67),
+        10 => (highest(), 65536),
+        _ => {
+            let plan = plan(chance);
+            let size = store_size(plan[1], chance);
+            (plan, size)
+        }
+    };
+    (record(&plan), size as u32)
+}
+
 impl Session {
     pub fn open(chance: &mut Chance, lossy: bool) -> Session {
-        let record = plan(chance);
-        let mut sender = Sender::default();
-        assert_eq!(archive::open(&mut sender, &record), 0);
-        let (number, mut receiver) = opened(&record, store_size(u64::from(sender.plan.max), chance) as u32);
+        let (record, size) = opening(chance);
+        let (number, mut receiver) = opened(&record, size);
         assert_eq!(number, 0);
-        if chance.one_in(2) {
-            // both ends as they are when each line has carried its quantum so many times
-            let round = u32::MAX - chance.between(0, 9) as u32;
-            let lines = sender.plan.lines as usize;
-            sender.rounds[..lines].fill(round);
-            receiver.rounds[..lines].fill(round);
-            receiver.round = round;
-        }
-        let store = chance.bytes((sender.plan.lines * receiver.size) as usize);
-        let mut lines: Vec<Line> = (0..sender.plan.lines).map(|_| Line::default()).collect();
+        // both ends as they are when each line has carried its quantum so many times, or as opened
+        let round = if chance.one_in(2) { u32::MAX - chance.between(0, 9) as u32 } else { 1 };
+        receiver.rounds[..receiver.plan.lines as usize].fill(round);
+        receiver.round = round;
+        let before = chance.bytes((receiver.plan.lines * receiver.size) as usize);
+        let mut lines: Vec<Line> = receiver.lines().map(|_| Line::default()).collect();
         for line in lines.iter_mut().filter(|_| lossy) {
             line.loses = Some(chance.between(2, 30));
         }
-        let takes = chance.between(1, 6);
-        Session { sender, pair: Pair::new(receiver, store), lines, packets: Vec::new(), handed: Vec::new(), in_order_from: None, takes }
+        Session {
+            booth: Booth::open(&record, round),
+            pair: Pair::new(receiver, before.clone()),
+            far: FarEnd::open_at(receiver.plan, receiver.size, round),
+            before,
+            lines,
+            packets: Vec::new(),
+            handed: Vec::new(),
+            in_order_from: None,
+            takes: chance.between(1, 6),
+        }
+    }
+
+    pub fn max(&self) -> u64 {
+        u64::from(self.booth.sender.plan.max)
     }
 
     pub fn any_line(&self, chance: &mut Chance) -> usize {
         chance.between(0, self.lines.len() as u64 - 1) as usize
     }
 
-    pub fn send(&mut self, chance: &mut Chance) {
-        let max = u64::from(self.sender.plan.max);
-        let most = if chance.one_in(4) { 64 } else { max };
-        let length = if chance.one_in(16) { max } else { chance.between(1, most) };
+    pub fn send(&mut self, chance: &mut Chance, counts: &mut Counts) {
+        let most = if chance.one_in(4) { 64 } else { self.max() };
+        let length = if chance.one_in(16) { self.max() } else { chance.between(1, most) };
         let packet = chance.bytes(length as usize);
-        let answer = archive::send(&mut self.sender, packet.len());
+        let answer = self.booth.send(packet.len(), BOOTH, counts);
         self.lines[(answer & 15) as usize].under_way.push_back(Item::Packet(self.packets.len()));
         self.packets.push(packet);
         if answer & 16 != 0 {
-            self.mark_all(false);
+            self.mark_all(false, counts);
         }
     }
 
-    pub fn mark(&mut self, line: usize, mends: bool) {
-        let mut record = vec![0; 9];
-        let length = archive::marker(&self.sender, line as u32, &mut record);
-        record.truncate(length as usize);
-        self.lines[line].under_way.push_back(Item::Marker { record, missing: 0, mends });
+    /// A send, or a marker asked for, that must be refused.
+    pub fn refused_call(&mut self, line: usize, chance: &mut Chance, counts: &mut Counts) {
+        let asked = match chance.between(0, 3) {
+            0 => self.booth.send(0, BOOTH, counts) < 256,
+            1 => self.booth.send(self.max() as usize + 1, BOOTH, counts) < 256,
+            2 => self.booth.marker(chance.between(self.lines.len() as u64, 20) as u32, &[9; 12], BOOTH, counts).is_some(),
+            _ => self.booth.marker(line as u32, &[9; 2], BOOTH, counts).is_some(),
+        };
+        assert!(!asked, "a call that must be refused");
     }
 
-    pub fn mark_all(&mut self, mends: bool) {
-        (0..self.lines.len()).for_each(|line| self.mark(line, mends));
+    pub fn mark(&mut self, line: usize, mends: bool, counts: &mut Counts) {
+        let record = self.booth.marker(line as u32, &[0; 9], BOOTH, counts).expect("nine bytes are enough");
+        let position = self.booth.definition.position(line);
+        self.lines[line].under_way.push_back(Item::Marker(Mark { record, position, missing: 0, mends, again: false }));
+    }
+
+    pub fn mark_all(&mut self, mends: bool, counts: &mut Counts) {
+        (0..self.lines.len()).for_each(|line| self.mark(line, mends, counts));
+    }
+
+    /// Holds an answer against the one by positions, and the state against what the positions show.
+    fn hold<A: PartialEq + std::fmt::Debug>(&self, call: &str, answer: A, expected: A) {
+        if answer != expected || !self.far.shows(&self.pair.receiver) {
+            differs(call, format!("by positions: {answer:?} and {expected:?}, and then {:?}", self.pair.receiver));
+        }
+    }
+
+    pub fn data(&mut self, line: u32, bytes: &[u8], counts: &mut Counts) -> u32 {
+        let number = self.pair.data(line, bytes);
+        let expected = self.far.data(line, bytes);
+        self.hold("data", number, expected);
+        counts.arrival("in them, data", number);
+        number
+    }
+
+    pub fn marker(&mut self, line: u32, bytes: &[u8], position: u128, counts: &mut Counts) -> u32 {
+        let number = self.pair.marker(line, bytes);
+        let expected = self.far.marker(line, bytes, position);
+        self.hold("a marker", number, expected);
+        counts.arrival("in them, markers", number);
+        number
     }
 
     /// The oldest item under way on a line arrives or is lost. One that is refused for room is lost too, or keeps its place and comes again.
     /// Answers whether it has left its line.
-    pub fn arrive(&mut self, line: usize, chance: &mut Chance, tally: &mut Tally) -> bool {
-        let at = &mut self.lines[line];
-        let Some(mut item) = at.under_way.pop_front() else {
+    pub fn arrive(&mut self, line: usize, chance: &mut Chance, counts: &mut Counts) -> bool {
+        let loses = self.lines[line].loses;
+        let Some(item) = self.lines[line].under_way.pop_front() else {
             return false;
         };
-        let mut lost = at.loses.is_some_and(|n| chance.one_in(n));
+        let mut lost = loses.is_some_and(|n| chance.one_in(n));
         if !lost {
-            let (call, number) = match &item {
-                Item::Packet(packet) => ("data", self.pair.data(line as u32, &self.packets[*packet])),
-                Item::Marker { record, .. } => ("marker", self.pair.marker(line as u32, record)),
+            let number = match &item {
+                Item::Packet(packet) => {
+                    let bytes = self.packets[*packet].clone();
+                    self.data(line as u32, &bytes, counts)
+                }
+                Item::Marker(mark) => self.marker(line as u32, &mark.record, mark.position, counts),
             };
-            tally.number(call, number);
-            if number != 0 && (at.loses.is_none() || chance.one_in(2)) {
-                at.under_way.push_front(item);
+            lost = number != 0;
+            if lost && (loses.is_none() || chance.one_in(2)) {
+                self.lines[line].under_way.push_front(item);
                 return false;
             }
-            lost = number != 0;
         }
-        match &mut item {
-            Item::Packet(packet) if lost => at.unreported += self.packets[*packet].len() as u64,
-            Item::Marker { missing, .. } if !lost => *missing = std::mem::take(&mut at.unreported),
-            _ => {}
-        }
-        if !lost {
-            at.held.push_back(item);
-        }
+        self.settle(line, item, lost, counts);
         true
     }
 
-    /// What a take's word says is held against the model. Answers the bytes it has written.
-    fn taken(&mut self, word: u64, out: &[u8]) -> usize {
+    /// An item has arrived or is lost: what its line has lost is kept until a marker is stored, which must report it.
+    fn settle(&mut self, line: usize, mut item: Item, lost: bool, counts: &mut Counts) {
+        let at = &mut self.lines[line];
+        match &mut item {
+            Item::Packet(packet) if lost => at.unreported += self.packets[*packet].len() as u64,
+            Item::Marker(mark) if !lost => mark.missing = std::mem::take(&mut at.unreported),
+            _ => {}
+        }
+        if lost {
+            counts.count(ON_LINES, if matches!(item, Item::Packet(_)) { "packet lost" } else { "marker lost" });
+        } else {
+            at.held.push_back(item);
+        }
+    }
+
+    /// The last marker that a line has yielded comes once more.
+    pub fn again(&mut self, line: usize, counts: &mut Counts) {
+        if let Some(mark) = self.lines[line].yielded.clone() {
+            if self.marker(line as u32, &mark.record, mark.position, counts) == 0 {
+                self.lines[line].held.push_back(Item::Marker(Mark { again: true, missing: 0, mends: false, ..mark }));
+                counts.count(ON_LINES, "marker again");
+            }
+        }
+    }
+
+    /// What a take comes to is held against what its line holds and has lost.
+    fn taken(&mut self, word: u64, bytes: &[u8]) {
         let (kind, line, value) = (word & 3, (word / 4 & 15) as usize, word / 64);
         let item = self.lines.get_mut(line).and_then(|line| line.held.pop_front());
         match item {
-            Some(Item::Packet(packet)) if kind == 0 && out.get(..value as usize) == Some(&self.packets[packet]) => {
-                self.handed.push(packet);
-                value as usize
-            }
-            Some(Item::Marker { missing, mends, .. }) if kind == 1 && missing == value => {
-                self.lines[line].mended |= mends;
+            Some(Item::Packet(packet)) if kind == 0 && bytes == self.packets[packet] => self.handed.push(packet),
+            Some(Item::Marker(mark)) if mark.again && (kind == 2 || kind == 1 && value == 0) => {}
+            Some(Item::Marker(mark)) if !mark.again && kind == 1 && mark.missing == value => {
+                self.lines[line].mended |= mark.mends;
+                self.lines[line].yielded = Some(mark);
                 if self.in_order_from.is_none() && self.lines.iter().all(|line| line.mended) {
                     self.in_order_from = Some(self.handed.len());
                 }
-                0
             }
-            _ => differs("a take by the model", format!("{:?}: kind {kind}, line {line}, value {value}", self.pair.receiver)),
+            _ => differs("a take, by what its line holds and has lost", format!("{:?}: kind {kind}, line {line}, value {value}", self.pair.receiver)),
         }
     }
 
     /// One take. Answers whether it took something.
-    pub fn take(&mut self, room: usize, chance: &mut Chance, tally: &mut Tally) -> bool {
+    pub fn take(&mut self, room: usize, chance: &mut Chance, counts: &mut Counts) -> bool {
         let (word, out) = self.pair.take(&chance.bytes(room));
-        tally.word("take", word);
-        if word & 3 == 3 {
-            return false;
+        let (outcome, bytes) = self.far.take(room);
+        self.hold("a take", (word, &out[..bytes.len().min(room)]), (outcome.word(), &bytes[..]));
+        counts.word("in them, takes", word);
+        if outcome.is_taken() {
+            self.taken(word, &bytes);
         }
-        self.taken(word, &out);
-        true
+        outcome.is_taken()
     }
 
-    pub fn run(&mut self, room: usize, chance: &mut Chance, tally: &mut Tally) {
-        let log: Vec<u64> = (0..chance.between(0, 12)).map(|_| chance.next()).collect();
-        let (done, out, log) = self.pair.takes(&chance.bytes(room), &log);
-        let mut written = 0;
-        for word in &log[..done] {
-            tally.word("run", *word);
-            written += self.taken(*word, &out[written..]);
+    pub fn run(&mut self, room: usize, chance: &mut Chance, counts: &mut Counts) {
+        let most = chance.between(0, 12);
+        let (done, out, log) = self.pair.takes(&chance.bytes(room), &chance.words(most));
+        let (mut written, mut taken) = (0, Vec::new());
+        while taken.len() < log.len() {
+            let (outcome, bytes) = self.far.take(room - written);
+            if !outcome.is_taken() {
+                break;
+            }
+            written += bytes.len();
+            taken.push((outcome, bytes));
+        }
+        let words: Vec<u64> = taken.iter().map(|(outcome, _): &(Outcome, _)| outcome.word()).collect();
+        let all: Vec<u8> = taken.iter().flat_map(|(_, bytes)| bytes.clone()).collect();
+        self.hold("a run of takes", (&log[..done], &out[..written]), (&words[..], &all[..]));
+        for (outcome, bytes) in &taken {
+            counts.word("in them, takes of runs", outcome.word());
+            self.taken(outcome.word(), bytes);
         }
     }
 }

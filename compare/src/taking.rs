@@ -27,7 +27,7 @@ impl Outcome {
     }
 
     /// Whether an item was taken.
-    fn is_taken(self) -> bool {
+    pub fn is_taken(self) -> bool {
         !matches!(self, Outcome::Waiting { .. } | Outcome::Refused(_))
     }
 }
