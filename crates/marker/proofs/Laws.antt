@@ -6,17 +6,19 @@ use mathlib.Core.Bool.{Bool, true, false, cond}
 use mathlib.Core.List.{List, [], _∷_, _++_}
 use lib.ListN.{length, drop, length-drop}
 use lib.Dec.{eqb}
-use borrow.Author.Tests.{lt-ltb, le-ltb, eq-eqb, ne-eqb, eqb-true}
+use borrow.Author.Tests.{lt-ltb, le-ltb, ltb-true, eq-eqb, ne-eqb, eqb-true}
+use Rattle.numbers.specs.declared.Reading.{Reading}
 use Rattle.numbers.specs.declared.Reading.the-variants.{Number, Nothing}
 use Rattle.numbers.specs.declared.Written.the-variants as w
-use Rattle.numbers.specs.Coding.{Bytes, readingOf, coded, rowBytes}
+use Rattle.numbers.specs.Coding.{Bytes, readingOf, onward, coded, rowBytes}
 use Rattle.numbers.specs.Writing.{written, outcome}
+use Rattle.numbers.proofs.Checks.{from-range}
 use Rattle.numbers.proofs.Laws.{onward-written, onward-number, split, fits, size, bytes-drop}
-use Rattle.plan.specs.Limits.{mostLines}
+use Rattle.plan.specs.Limits.{mostLines, mostQuantum}
 use Rattle.marker.specs.declared.Marker.{Marker}
 use Rattle.marker.specs.declared.MarkerRead.{MarkerRead}
 use Rattle.marker.specs.declared.MarkerRead.the-variants.{Whole, Refused}
-use Rattle.marker.specs.Marker.{markerOf, field, recordRead, markerBytes, counterOk, lineOk, markerChecked, markerWritten, numberOf}
+use Rattle.marker.specs.Marker.{markerOf, field, recordRead, markerBytes, counterOk, lineOk, markerChecked, thenChecked, markerRead, markerWritten, numberOf}
 
 -- a marker that is read is none that is refused
 pub whole-not-refused : {k : ℕ} {m : Marker} → Refused k ≡ Whole m → ⊥
@@ -165,6 +167,64 @@ passed m e = go (counterOk m) refl (lineOk m) refl e
     go true p true q e = (simp (p, q), p, q)
     go true p false q e = absurd (omega arith)
     go false p b q e = absurd (omega arith)
+
+-- ---- the standalone reading: how large its answers are
+
+pub read-in-range : (s : List ℕ) (m : Marker) → markerRead s ≡ Whole m → (m .line < mostLines) × (m .counter ≤ mostQuantum) × (m .round < 2 ^ 32)
+unfolding markerRead
+read-in-range s m e = go (recordRead s) refl e
+  where
+    go : (r : MarkerRead) → recordRead s ≡ r → thenChecked r ≡ Whole m → (m .line < mostLines) × (m .counter ≤ mostQuantum) × (m .round < 2 ^ 32)
+    go (Refused k) h e = absurd (whole-not-refused e)
+    go (Whole n) h e =
+        let p = passed n (ap numberOf e) in
+        let back : Whole n ≡ Whole m = sym (p .0) ∙ e in
+        let same : n ≡ m = cc in (
+          omega (arith, ltb-true (n .line) mostLines (p .2), ap (λ (k : Marker). k .line) same),
+          omega (arith, from-range 1 (n .counter) mostQuantum (p .1) .1, ap (λ (k : Marker). k .counter) same),
+          omega (arith, fifteen-bytes s n h .1, ap (λ (k : Marker). k .round) same),
+        )
+
+abbrev SmallNumber : MarkerRead → Type 0
+SmallNumber (Whole m) = Unit {0}
+SmallNumber (Refused k) = k ≤ 5
+
+onward-small : (r : Reading) (s : List ℕ) (next : ℕ → List ℕ → MarkerRead) → ((v : ℕ) (t : List ℕ) → SmallNumber (next v t))
+    → SmallNumber (onward r s (Refused 5) next)
+onward-small Nothing s next h = omega arith
+onward-small (Number v at) s next h = h v (drop at s)
+
+record-small : (s : List ℕ) → SmallNumber (recordRead s)
+unfolding recordRead
+record-small s =
+    onward-small (readingOf 32 s) s _ (λ line s₁. onward-small (readingOf 32 s₁) s₁ _ (λ round s₂. onward-small (readingOf 32 s₂) s₂ _
+    (λ counter over. end (eqb (length over) 0) (markerOf line round counter))))
+  where
+    end : (t : Bool) (m : Marker) → SmallNumber (cond t (Whole m) (Refused 5))
+    end true m = tt
+    end false m = omega arith
+
+checked-small : (m : Marker) → SmallNumber (markerChecked m)
+unfolding markerChecked
+checked-small m = go (counterOk m) (lineOk m)
+  where
+    go : (a b : Bool) → SmallNumber (decided m a b)
+    go true true = tt
+    go true false = omega arith
+    go false b = omega arith
+
+read-small : (s : List ℕ) → SmallNumber (markerRead s)
+unfolding markerRead
+read-small s = go (recordRead s) (record-small s)
+  where
+    go : (r : MarkerRead) → SmallNumber r → SmallNumber (thenChecked r)
+    go (Whole m) h = checked-small m
+    go (Refused k) h = h
+
+pub number-small : (s : List ℕ) (k : ℕ) → markerRead s ≡ Refused k → k ≤ 5
+number-small s k e = rw e at (read-small s)
+
+-- ---- the standalone writer
 
 module _ (m : Marker) (out : List ℕ) where
   pub line-not-written : mostLines ≤ m .line → (w.Refused 3 ≡ markerWritten m out .answer) × (out ≡ markerWritten m out .out)

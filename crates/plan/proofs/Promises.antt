@@ -1,22 +1,23 @@
 -- What the plan record promises. Assumes nothing.
 use mathlib.Core.Path.{_≡_, refl, ap, sym, _∙_}
-use Prim.Native.Nat.{ℕ, _-_, _≤_}
+use Prim.Native.Nat.{ℕ, zero, suc, _-_, _*_, _≤_, _<_}
 use native.Mathlib.Omega.{arith}
+use mathlib.Core.Logic.{_⊎_}
 use mathlib.Core.Bool.{true}
 use mathlib.Core.List.{List, [], _∷_, _++_}
-use lib.ListN.{length, take, replicate}
+use lib.ListN.{length, take, getD, replicate, length-append}
 use lib.Seq.{take-at, length-take-le}
 use Rattle.numbers.specs.Checks.{check, inRange, allBelow}
 use Rattle.numbers.specs.Writing.{numberOf, lengthOf, room}
 use Rattle.numbers.specs.Coding.{Bytes, coded, rowBytes, reading, readingOf}
 use Rattle.numbers.proofs.Checks.{check-passed, in-range as is-in-range, from-range, all}
-use Rattle.numbers.proofs.Laws.{accepted}
+use Rattle.numbers.proofs.Laws.{coded-size-of, accepted}
 use Rattle.plan.specs.declared.Plan.{Plan}
-use Rattle.plan.specs.Limits.{leastLines, mostLines, leastMax, mostMax, leastInterval, mostInterval}
+use Rattle.plan.specs.Limits.{leastLines, mostLines, leastMax, mostMax, mostQuantum, leastInterval, mostInterval}
 use Rattle.plan.specs.Plan.{quantum, quantumOk, planOk, trimmed}
-use Rattle.plan.specs.Record.{bare, readPlan, quantaRead, planRead, planBytes, planWritten}
+use Rattle.plan.specs.Record.{bare, readPlan, refusedPlan, within, quantaRead, planRead, planBytes, planWritten}
 use Rattle.plan.proofs.Laws.{in-range}
-use Rattle.plan.proofs.Records.{field-written, field-read, withQuanta, AllFit, quanta-written, quanta-read, laid, fit-take, fit-at}
+use Rattle.plan.proofs.Records.{field-written, field-read, withQuanta, AllFit, quanta-written, quanta-read, onward-settled, quanta-settled, laid, fit-take, fit-at}
 
 -- the record of a plan in range
 record-reads : (p : Plan) → planOk p ≡ true → length (p .quanta) ≡ mostLines → planRead (planBytes p) ≡ readPlan (trimmed p)
@@ -82,6 +83,42 @@ read-is-written s p bytes e =
       sym (ap planOk is) ∙ planned-ok (n .0) (m .0) (k .0) (q .row) (q .count) (n .3) (m .3) (k .3) (q .fit),
       sym (ap trimmed is) ∙ planned-trimmed (n .0) (m .0) (k .0) (q .row) (q .count) ∙ is,
     )
+
+-- Any bytes read, or are refused with number 1 and an all-zero plan.
+pub read-or-refused : (s : List ℕ) → (planRead s .number ≡ 0) ⊎ (planRead s ≡ refusedPlan)
+unfolding planRead
+read-or-refused s =
+    onward-settled (within leastLines mostLines (readingOf 32 s)) s _ (λ n s₁.
+    onward-settled (within leastMax mostMax (readingOf 32 s₁)) s₁ _ (λ max s₂.
+    onward-settled (within leastInterval mostInterval (readingOf 32 s₂)) s₂ _ (λ interval s₃.
+    quanta-settled n 0 (bare n max interval) s₃)))
+
+-- three bytes for each quantum
+quanta-short : (n : ℕ) (quanta : List ℕ) → ((i : ℕ) → i < n → getD quanta i 0 ≤ mostQuantum) → length (rowBytes (take n quanta)) ≤ 3 * n
+unfolding rowBytes
+quanta-short zero quanta most = omega arith
+quanta-short (suc n) [] most = omega arith
+quanta-short (suc n) (q ∷ quanta) most =
+    let here : q ≤ mostQuantum = most 0 (omega arith) in
+    let later = quanta-short n quanta (λ i h. most (suc i) (omega arith)) in
+    simp length-append (omega (arith, coded-size-of 32 21 q (omega arith) (omega arith) (omega arith)))
+
+-- No record of a plan in range is longer than 54 bytes: one for N, two for Max, three for K, and three for each of sixteen quanta.
+pub fifty-four-bytes : (p : Plan) → planOk p ≡ true → length (planBytes p) ≤ 54
+unfolding rowBytes
+fifty-four-bytes p good =
+    let r = in-range p good in
+    let few = r .few-lines in
+    let largest = r .max-most in
+    let every = r .interval-most in
+    let quanta = quanta-short (p .lines) (p .quanta) (r .quantum-most) in
+    simp length-append
+    (omega (
+      arith,
+      coded-size-of 32 7 (p .lines) (omega arith) (omega arith) (omega arith),
+      coded-size-of 32 14 (p .max) (omega arith) (omega arith) (omega arith),
+      coded-size-of 32 21 (p .interval) (omega arith) (omega arith) (omega arith),
+    ))
 
 -- ● of the specification: the session's plan, 2 lines, Max 500, K 1, quanta 1000 and 500, is the record 02 F4 03 01 E8 07 F4 03.
 abbrev pub session : Plan

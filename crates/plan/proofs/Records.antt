@@ -3,14 +3,17 @@ use mathlib.Core.Path.{_≡_, refl, ap, _∙_}
 use Prim.Native.Nat.{ℕ, zero, suc, _-_, _^_, _≤_, _<_}
 use native.Mathlib.Nat.{zero-add, sub-zero, suc-sub-suc}
 use native.Mathlib.Omega.{arith}
+use mathlib.Core.Logic.{_⊎_, inl, inr}
 use mathlib.Core.Bool.{Bool, true, false, cond}
 use mathlib.Core.List.{List, [], _∷_, _++_}
 use lib.ListN.{length, take, drop, getD, replicate, length-replicate}
 use lib.Seq.{sets, sets-eq}
 use lib.Dec.{eqb}
 use borrow.Author.Tests.{eqb-true}
+use Rattle.numbers.specs.declared.Reading.{Reading}
+use Rattle.numbers.specs.declared.Reading.the-variants.{Number, Nothing}
 use Rattle.numbers.specs.Checks.{inRange}
-use Rattle.numbers.specs.Coding.{Bytes, readingOf, coded, rowBytes}
+use Rattle.numbers.specs.Coding.{Bytes, readingOf, onward, coded, rowBytes}
 use Rattle.numbers.proofs.Checks.{from-range}
 use Rattle.numbers.proofs.Laws.{round-trip, onward-written, onward-number, split, bytes-drop}
 use Rattle.plan.specs.declared.Plan.{Plan}
@@ -100,3 +103,23 @@ pub fit-at : (max : ℕ) (row rest : List ℕ) → AllFit max row → (i : ℕ) 
 fit-at max [] rest f i h = absurd (omega arith)
 fit-at max (v ∷ row) rest f zero h = f .0
 fit-at max (v ∷ row) rest f (suc i) h = fit-at max row rest (f .1) i (omega arith)
+
+-- ---- a reading is of a plan, or the refused one
+
+abbrev pub Settled : PlanRead → Type 0
+Settled r = (r .number ≡ 0) ⊎ (r ≡ refusedPlan)
+
+pub onward-settled : (r : Reading) (s : List ℕ) (next : ℕ → List ℕ → PlanRead) → ((v : ℕ) (t : List ℕ) → Settled (next v t))
+    → Settled (onward r s refusedPlan next)
+onward-settled Nothing s next h = inr refl
+onward-settled (Number v at) s next h = h v (drop at s)
+
+pub quanta-settled : (n i : ℕ) (p : Plan) (s : List ℕ) → Settled (quantaRead n i p s)
+unfolding quantaRead
+quanta-settled zero i p s = go (eqb (length s) 0)
+  where
+    go : (t : Bool) → Settled (cond t (readPlan p) refusedPlan)
+    go true = inl refl
+    go false = inr refl
+quanta-settled (suc n) i p s =
+    onward-settled (within (p .max) mostQuantum (readingOf 32 s)) s _ (λ q rest. quanta-settled n (suc i) (withQuantum p i q) rest)
