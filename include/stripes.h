@@ -1,8 +1,9 @@
 /* Starkvitne: what a driver written in C calls.
  *
  * Link with the archive libdriver.a (README.md says how it is built). Every function takes any numbers, any bytes and any
- * length, returns, and does nothing undefined, as long as each pointer is good for the length that stands behind it. None
- * keeps a pointer, allocates, or touches anything but its arguments, so calls on different buffers may run side by side.
+ * length, returns, and does nothing undefined, as long as each pointer is good for the length that stands behind it, and
+ * no two arguments of one call overlap. None keeps a pointer, allocates, or touches anything but its arguments, so calls
+ * on different buffers may run side by side.
  *
  * Where a length is 0 the pointer may be NULL: nothing is read or written through it.
  *
@@ -10,9 +11,9 @@
  *
  *   1  the plan record breaks the table of ranges or the layout
  *   2  the sender's state is not valid: it was not opened, or something else has written to it
- *   3  line not below the plan's lines (the standalone writer: not below 16)
+ *   3  line not below the plan's lines (the standalone marker calls: not below 16)
  *   4  packet length 0, or above the plan's largest packet
- *   5  counter outside 1 to 1,048,576
+ *   5  not a marker record, or its counter is outside 1 to 1,048,576
  *   8  output shorter than what is to be written
  *  10  counter still not positive after its quantum
  */
@@ -26,19 +27,51 @@
 extern "C" {
 #endif
 
-/* An answer of this or above is a refusal: its number is the answer less this. */
+/* Where an answer is a length or a line, this or above is a refusal: its number is the answer less this. */
 #define STRIPES_REFUSED 256u
 
-/* No marker record is longer: a buffer of this size has room for every one. */
+/* No number, marker record or plan record is longer: a buffer of that size has room for every one. */
+#define STRIPES_NUMBER_MOST 5u
 #define STRIPES_MARKER_MOST 9u
+#define STRIPES_PLAN_MOST 54u
+
+/* ---- Records. A number on the wire is unsigned, below 2^32, low seven bits first, the top bit of a byte set when another follows, and in its
+ * shortest form. A record is a row of numbers. */
+
+/* Of an answer of stripes_read_number that is not 0: the number, and how many bytes it takes. */
+#define STRIPES_NUMBER(answer) ((uint32_t)(answer))
+#define STRIPES_PLACE(answer) ((size_t)((answer) >> 32))
+
+/* Reads the number at the front of the bytes; what follows it does not matter. Answers the number in the low 32 bits and the place after it, 1 to
+ * 5, above them, or 0 where there is no number: the bytes end within it, it is 2^32 or more, or not in its shortest form. */
+uint64_t stripes_read_number(const uint8_t *bytes, size_t bytes_len);
+
+/* Writes a number to the front of out; the rest of out stays. Answers the length written, or STRIPES_REFUSED plus 8. */
+uint32_t stripes_write_number(uint32_t value, uint8_t *out, size_t out_len);
 
 /* Writes the marker record of a line, its round and its counter to the front of out; the rest of out stays.
  * Answers the length written, or STRIPES_REFUSED plus the first of 3, 5 and 8 that applies, in this order. */
 uint32_t stripes_write_marker(uint32_t line, uint32_t round, uint32_t counter, uint8_t *out, size_t out_len);
 
+/* Set in an answer of stripes_read_marker that is a refusal, whose number is the answer less this; no marker sets it. */
+#define STRIPES_NO_MARKER 0x2000000u
+
+/* Of any other answer of stripes_read_marker. */
+#define STRIPES_MARKER_LINE(answer) ((uint32_t)((answer) & 15u))
+#define STRIPES_MARKER_COUNTER(answer) ((uint32_t)(answer) >> 4)
+#define STRIPES_MARKER_ROUND(answer) ((uint32_t)((answer) >> 32))
+
+/* Reads a marker record: line, round, counter, and no byte over. Answers the line in the low four bits, the counter from bit 4 on and the round in
+ * the high 32 bits, or STRIPES_NO_MARKER plus the first of 5 and 3 that applies. */
+uint64_t stripes_read_marker(const uint8_t *bytes, size_t bytes_len);
+
 /* Checks a plan record: N, Max, K, then N quanta, each a number of seven-bit groups, and no byte over.
  * Answers 0 where it is the record of a plan in range, else 1. */
 uint32_t stripes_check_plan(const uint8_t *record, size_t record_len);
+
+/* Reads a plan record and writes the record of that plan, which is the same bytes, to the front of out; the rest of out stays. Answers the length
+ * written, or STRIPES_REFUSED plus the first of 1 and 8 that applies. */
+uint32_t stripes_copy_plan(const uint8_t *record, size_t record_len, uint8_t *out, size_t out_len);
 
 /* ---- The sender. The driver holds one for each bundle; only these calls write to it. */
 

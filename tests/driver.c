@@ -46,6 +46,107 @@ static void plan(const uint8_t *record, size_t n, uint32_t answer, const char *w
         plan(record, sizeof record, answer, what);          \
     } while (0)
 
+/* ---- numbers by themselves */
+
+static void number(const uint8_t *bytes, size_t n, uint64_t answer, const char *what)
+{
+    check(stripes_read_number(bytes, n) == answer, what);
+}
+
+#define NUMBER(value, place, what, ...)                                             \
+    do {                                                                            \
+        static const uint8_t bytes[] = { __VA_ARGS__ };                             \
+        uint64_t answer = stripes_read_number(bytes, sizeof bytes);                 \
+        check(STRIPES_NUMBER(answer) == (value), what);                             \
+        check(STRIPES_PLACE(answer) == (place), what);                              \
+    } while (0)
+
+/* Written in its shortest form, read back, and refused in any output that is shorter. */
+static void written_number(uint32_t value, size_t length, const uint8_t *bytes, const char *what)
+{
+    uint8_t out[ROOM], expected[ROOM];
+
+    memset(out, UNTOUCHED, sizeof out);
+    memset(expected, UNTOUCHED, sizeof expected);
+    for (size_t room = 0; room < length; room++)
+        check(stripes_write_number(value, out, room) == STRIPES_REFUSED + 8, what);
+    check(memcmp(out, expected, sizeof out) == 0, what);
+    memcpy(expected, bytes, length);
+    check(stripes_write_number(value, out, length) == length, what);
+    check(memcmp(out, expected, sizeof out) == 0, what);
+    check(stripes_read_number(out, sizeof out) == ((uint64_t)length << 32) + value, what);
+    for (size_t n = 0; n < length; n++)
+        number(out, n, 0, what);
+}
+
+#define WRITTEN(value, what, ...)                                   \
+    do {                                                            \
+        static const uint8_t bytes[] = { __VA_ARGS__ };             \
+        written_number(value, sizeof bytes, bytes, what);           \
+    } while (0)
+
+static void numbers(void)
+{
+    WRITTEN(0, "0", 0x00);
+    WRITTEN(127, "127", 0x7F);
+    WRITTEN(128, "128", 0x80, 0x01);
+    WRITTEN(16383, "the largest of two bytes", 0xFF, 0x7F);
+    WRITTEN(16384, "the least of three bytes", 0x80, 0x80, 0x01);
+    WRITTEN(UINT32_MAX, "the largest number", 0xFF, 0xFF, 0xFF, 0xFF, 0x0F);
+    NUMBER(127, 1, "bytes after a number", 0x7F, 0xFF, 0xFF);
+    NUMBER(0, 1, "0 is a number", 0x00);
+    NUMBER(0, 0, "128 in a longer form", 0x80, 0x81, 0x00);
+    NUMBER(0, 0, "0 in two bytes", 0x80, 0x00);
+    NUMBER(0, 0, "2^32", 0x80, 0x80, 0x80, 0x80, 0x10);
+    NUMBER(0, 0, "2^33 - 1", 0xFF, 0xFF, 0xFF, 0xFF, 0x1F);
+    NUMBER(0, 0, "six bytes", 0x80, 0x80, 0x80, 0x80, 0x80, 0x01);
+    number(NULL, 0, 0, "NULL of length 0");
+    check(stripes_write_number(0, NULL, 0) == STRIPES_REFUSED + 8, "a number into NULL of length 0");
+}
+
+/* ---- markers */
+
+/* What stripes_read_marker makes of the record of a marker in range, whole and cut. */
+static void marker_read(uint32_t line, uint32_t round, uint32_t counter, const char *what)
+{
+    uint8_t record[STRIPES_MARKER_MOST];
+    uint32_t length = stripes_write_marker(line, round, counter, record, sizeof record);
+    uint64_t answer = stripes_read_marker(record, length);
+
+    check((answer & STRIPES_NO_MARKER) == 0, what);
+    check(STRIPES_MARKER_LINE(answer) == line, what);
+    check(STRIPES_MARKER_ROUND(answer) == round, what);
+    check(STRIPES_MARKER_COUNTER(answer) == counter, what);
+    check(answer == line + 16 * (uint64_t)counter + ((uint64_t)round << 32), what);
+    for (size_t n = 0; n < length; n++)
+        check(stripes_read_marker(record, n) == STRIPES_NO_MARKER + 5, what);
+}
+
+#define NO_MARKER(number, what, ...)                                                                \
+    do {                                                                                            \
+        static const uint8_t bytes[] = { __VA_ARGS__ };                                             \
+        uint64_t answer = stripes_read_marker(bytes, sizeof bytes);                                 \
+        check(answer == STRIPES_NO_MARKER + (number) && (answer & STRIPES_NO_MARKER) != 0, what);   \
+    } while (0)
+
+static void markers_read(void)
+{
+    marker_read(0, 2, 800, "the session's marker on line 0, read");
+    marker_read(1, 2, 350, "the session's marker on line 1, read");
+    marker_read(15, UINT32_MAX, 1048576, "the longest marker, read");
+    marker_read(0, 0, 1, "the shortest marker, read");
+    marker_read(15, 0, 1048576, "the largest line and counter, read");
+    NO_MARKER(5, "a byte over", 0x00, 0x02, 0xA0, 0x06, 0x00);
+    NO_MARKER(5, "a line not in its shortest form", 0x80, 0x00, 0x02, 0xA0, 0x06);
+    NO_MARKER(5, "a counter not in its shortest form", 0x00, 0x02, 0xA0, 0x86, 0x00);
+    NO_MARKER(5, "a round of 2^32", 0x00, 0x80, 0x80, 0x80, 0x80, 0x10, 0x01);
+    NO_MARKER(5, "counter 0, read", 0x00, 0x02, 0x00);
+    NO_MARKER(5, "a counter above every quantum, read", 0x00, 0x02, 0x81, 0x80, 0x40);
+    NO_MARKER(3, "line 16, read", 0x10, 0x02, 0xA0, 0x06);
+    NO_MARKER(5, "line and counter wrong: 5 first", 0x10, 0x02, 0x00);
+    check(stripes_read_marker(NULL, 0) == STRIPES_NO_MARKER + 5, "a marker read from NULL of length 0");
+}
+
 static void markers(void)
 {
     static const uint8_t line_0[] = { 0x00, 0x02, 0xA0, 0x06 };
@@ -91,6 +192,47 @@ static void plans(void)
     PLAN(1, "a quantum of 1048577", 0x01, 0x40, 0x01, 0x81, 0x80, 0x40);
     PLAN(1, "a number not in its shortest form", 0x81, 0x00, 0x40, 0x01, 0x40);
     PLAN(1, "a number of 2^32", 0x01, 0x40, 0x01, 0x80, 0x80, 0x80, 0x80, 0x10);
+}
+
+/* Copies a record of a plan in range: byte for byte, refused in any output that is shorter. */
+static void copied(const uint8_t *record, size_t n, const char *what)
+{
+    uint8_t out[STRIPES_PLAN_MOST + 1], expected[STRIPES_PLAN_MOST + 1];
+
+    memset(out, UNTOUCHED, sizeof out);
+    memset(expected, UNTOUCHED, sizeof expected);
+    for (size_t room = 0; room < n; room++)
+        check(stripes_copy_plan(record, n, out, room) == STRIPES_REFUSED + 8, what);
+    for (size_t cut = 0; cut < n; cut++)
+        check(stripes_copy_plan(record, cut, out, sizeof out) == STRIPES_REFUSED + 1, what);
+    check(stripes_copy_plan(record, n, NULL, 0) == STRIPES_REFUSED + 8, what);
+    check(memcmp(out, expected, sizeof out) == 0, what);
+    memcpy(expected, record, n);
+    check(stripes_copy_plan(record, n, out, n) == n, what);
+    check(memcmp(out, expected, sizeof out) == 0, what);
+    check(stripes_copy_plan(record, n, out, sizeof out) == n, what);
+    check(memcmp(out, expected, sizeof out) == 0, what);
+}
+
+static void copies(void)
+{
+    static const uint8_t least[] = { 0x01, 0x40, 0x01, 0x40 };
+    static const uint8_t over[] = { 0x01, 0x40, 0x01, 0x40, 0x00 };
+    static const uint8_t longer[] = { 0x81, 0x00, 0x40, 0x01, 0x40 };
+    uint8_t longest[STRIPES_PLAN_MOST] = { 0x10, 0xA8, 0x46, 0xFF, 0xFF, 0x03 };
+    uint8_t out[ROOM];
+
+    for (size_t i = 6; i < sizeof longest; i += 3) {
+        longest[i] = longest[i + 1] = 0x80;
+        longest[i + 2] = 0x40;
+    }
+    copied(session_record, sizeof session_record, "the session's plan, copied");
+    copied(least, sizeof least, "the least plan, copied");
+    copied(longest, sizeof longest, "the longest plan, copied");
+    check(stripes_copy_plan(over, sizeof over, out, sizeof out) == STRIPES_REFUSED + 1, "a byte over, copied");
+    check(stripes_copy_plan(longer, sizeof longer, out, sizeof out) == STRIPES_REFUSED + 1, "a number not in its shortest form, copied");
+    check(stripes_copy_plan(NULL, 0, out, sizeof out) == STRIPES_REFUSED + 1, "NULL of length 0, copied");
+    check(stripes_copy_plan(NULL, 0, NULL, 0) == STRIPES_REFUSED + 1, "record and room wrong: 1 before 8");
 }
 
 /* ---- the session on paper, through the sender */
@@ -173,8 +315,11 @@ int main(void)
     print_bytes(out, stripes_write_marker(1, 2, 350, out, sizeof out));
 
     for (exact = 0; exact < 2; exact++) {
+        numbers();
         markers();
+        markers_read();
         plans();
+        copies();
         session();
         sender_refusals();
     }

@@ -78,6 +78,43 @@ static inline uint32_t lent_check_plan(const uint8_t *record, size_t record_len)
     return answer;
 }
 
+static inline uint64_t lent_read_number(const uint8_t *bytes, size_t len)
+{
+    uint8_t *b = lend(bytes, len);
+    uint64_t answer = stripes_read_number(b, len);
+
+    put_away(b, bytes, len);
+    return answer;
+}
+
+static inline uint32_t lent_write_number(uint32_t value, uint8_t *out, size_t out_len)
+{
+    uint8_t *o = lend(out, out_len);
+    uint32_t answer = stripes_write_number(value, o, out_len);
+
+    give_back(o, out, out_len);
+    return answer;
+}
+
+static inline uint64_t lent_read_marker(const uint8_t *bytes, size_t len)
+{
+    uint8_t *b = lend(bytes, len);
+    uint64_t answer = stripes_read_marker(b, len);
+
+    put_away(b, bytes, len);
+    return answer;
+}
+
+static inline uint32_t lent_copy_plan(const uint8_t *record, size_t record_len, uint8_t *out, size_t out_len)
+{
+    uint8_t *r = lend(record, record_len), *o = lend(out, out_len);
+    uint32_t answer = stripes_copy_plan(r, record_len, o, out_len);
+
+    put_away(r, record, record_len);
+    give_back(o, out, out_len);
+    return answer;
+}
+
 static inline uint32_t lent_open(struct stripes_sender *sender, const uint8_t *record, size_t record_len)
 {
     struct stripes_sender *s = lend(sender, sizeof *sender);
@@ -111,6 +148,10 @@ static inline uint32_t lent_marker(const struct stripes_sender *sender, uint32_t
 
 #define stripes_write_marker lent_write_marker
 #define stripes_check_plan lent_check_plan
+#define stripes_read_number lent_read_number
+#define stripes_write_number lent_write_number
+#define stripes_read_marker lent_read_marker
+#define stripes_copy_plan lent_copy_plan
 #define stripes_open lent_open
 #define stripes_send lent_send
 #define stripes_marker lent_marker

@@ -19,8 +19,16 @@ use Rattle.sender.specs.Sender.{sendOf, markerFrom}
 use Rattle.driver.specs.Exports.{exported, exportedSent, openFrom}
 use Rattle.driver.proofs.stripes_write_marker.Reads as write-marker
 use Rattle.driver.proofs.stripes_write_marker.Kinds as write-marker-kinds
+use Rattle.driver.proofs.stripes_read_number.Reads as read-number
+use Rattle.driver.proofs.stripes_read_number.Kinds as read-number-kinds
+use Rattle.driver.proofs.stripes_write_number.Reads as write-number
+use Rattle.driver.proofs.stripes_write_number.Kinds as write-number-kinds
+use Rattle.driver.proofs.stripes_read_marker.Reads as read-marker
+use Rattle.driver.proofs.stripes_read_marker.Kinds as read-marker-kinds
 use Rattle.driver.proofs.stripes_check_plan.Reads as check-plan
 use Rattle.driver.proofs.stripes_check_plan.Kinds as check-plan-kinds
+use Rattle.driver.proofs.stripes_copy_plan.Reads as copy-plan
+use Rattle.driver.proofs.stripes_copy_plan.Kinds as copy-plan-kinds
 use Rattle.driver.proofs.stripes_send as thin-send
 use Rattle.driver.proofs.stripes_open as thin-open
 use Rattle.driver.proofs.stripes_marker as thin-marker
@@ -28,8 +36,20 @@ use Rattle.driver.proofs.stripes_marker as thin-marker
 pub write-marker-tight : OneOutcome 1 write-marker-kinds.ps write-marker-kinds.r write-marker.Post (λ κs e. e .1 .1 .1 .0 .now)
 write-marker-tight κs a z z′ e e′ p q = (only (p .0) (q .0), only (p .1) (q .1))
 
+pub read-number-tight : OneAnswer 1 read-number-kinds.ps read-number-kinds.r read-number.Post
+read-number-tight κs a z z′ e e′ p q = only p q
+
+pub write-number-tight : OneOutcome 1 write-number-kinds.ps write-number-kinds.r write-number.Post (λ κs e. e .1 .0 .now)
+write-number-tight κs a z z′ e e′ p q = (only (p .0) (q .0), only (p .1) (q .1))
+
+pub read-marker-tight : OneAnswer 1 read-marker-kinds.ps read-marker-kinds.r read-marker.Post
+read-marker-tight κs a z z′ e e′ p q = only p q
+
 pub check-plan-tight : OneAnswer 1 check-plan-kinds.ps check-plan-kinds.r check-plan.Post
 check-plan-tight κs a z z′ e e′ p q = only p q
+
+pub copy-plan-tight : OneOutcome 2 copy-plan-kinds.ps copy-plan-kinds.r copy-plan.Post (λ κs e. e .1 .0 .now)
+copy-plan-tight κs a z z′ e e′ p q = (only (p .0) (q .0), only (p .1) (q .1))
 
 -- ---- the thin send: its number and the sender as it leaves it
 

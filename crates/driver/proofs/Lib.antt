@@ -1,2 +1,4 @@
 mod Small
+mod Words
+mod Copies
 mod Determined

@@ -1,10 +1,17 @@
 -- Answers as C gets them: one number each.
-use Prim.Native.Nat.{ℕ, _+_}
+use Prim.Native.Nat.{ℕ, _+_, _*_, _/_, _%_}
 use mathlib.Core.Bool.{cond}
 use mathlib.Core.List.{List}
+use lib.Dec.{eqb}
+use Rattle.numbers.specs.declared.Reading.{Reading}
+use Rattle.numbers.specs.declared.Reading.the-variants.{Number, Nothing}
 use Rattle.numbers.specs.declared.Written.{Written}
 use Rattle.numbers.specs.declared.Written.the-variants as w
-use Rattle.plan.specs.Record.{planRead}
+use Rattle.numbers.specs.Writing.{Outcome}
+use Rattle.plan.specs.Record.{planRead, planWritten}
+use Rattle.marker.specs.declared.MarkerRead.{MarkerRead}
+use Rattle.marker.specs.declared.MarkerRead.the-variants as m
+use Rattle.marker.specs.Marker.{markerOf}
 use Rattle.sender.specs.declared.Sender.{Sender}
 use Rattle.sender.specs.declared.Sent.{Sent}
 use Rattle.sender.specs.declared.Sent.the-variants as s
@@ -16,6 +23,29 @@ use Rattle.driver.specs.declared.CodedSend.{CodedSend}
 abbrev pub exported : Written → ℕ
 exported (w.Length n) = n
 exported (w.Refused k) = 256 + k
+
+-- a number's reading: 0 for nothing, else the number plus 2^32 times the place after it; and as C reads it back
+abbrev pub exportedReading : Reading → ℕ
+exportedReading Nothing = 0
+exportedReading (Number v at) = v + 4294967296 * at
+
+unfoldable pub readingIn : ℕ → Reading
+readingIn w = cond (eqb w 0) Nothing (Number (w % 4294967296) (w / 4294967296))
+
+-- a marker's reading: the line plus 16 times the counter plus 2^32 times the round, or 2^25 plus the table's number; and as C reads it back
+abbrev pub bit25 : ℕ
+bit25 = 33554432
+
+abbrev pub exportedMarker : MarkerRead → ℕ
+exportedMarker (m.Whole k) = k .line + 16 * k .counter + 4294967296 * k .round
+exportedMarker (m.Refused number) = bit25 + number
+
+unfoldable pub markerIn : ℕ → MarkerRead
+markerIn w = cond (eqb (w / bit25 % 2) 1) (m.Refused (w % bit25)) (m.Whole (markerOf (w % 16) (w / 4294967296) (w % 4294967296 / 16)))
+
+-- the plan of a record, written
+abbrev pub copied : List ℕ → List ℕ → Outcome
+copied bytes out = planWritten (planRead bytes .plan) out
 
 -- a send's: the line, 16 added when markers are due, or 256 plus the table's number
 abbrev pub exportedSent : Sent → ℕ

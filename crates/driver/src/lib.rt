@@ -1,17 +1,21 @@
-// What the driver, written in C, sees: the marker writer and the plan check, on numbers and byte slices, and the sender that it holds for
-// each bundle. Each export calls the proved function and turns its answer into one number; include/stripes.h is the other side. The
+// What the driver, written in C, sees: the readers and writers of numbers, plans and markers, on numbers and byte slices, and the sender that it
+// holds for each bundle. Each export calls the proved function and turns its answer into one number; include/stripes.h is the other side. The
 // definitions are in specs/Exports.antt.
 use marker::Marker;
+use marker::MarkerRead;
+use numbers::Reading;
 use numbers::Written;
 use sender::Sender;
 use sender::SenderOpened;
 use sender::Sent;
 ghost use mathlib.Core.Path.{_≡_};
 ghost use Prim.Native.Nat.{_<_, _^_};
+ghost use Rattle.numbers.specs.Coding.{readingOf, coded};
+ghost use Rattle.numbers.specs.Writing.{written};
 ghost use Rattle.plan.specs.Record.{planRead};
-ghost use Rattle.marker.specs.Marker.{markerOf, markerWritten};
+ghost use Rattle.marker.specs.Marker.{markerOf, markerRead, markerWritten};
 ghost use Rattle.sender.specs.Sender.{sendOf, markerFrom};
-ghost use Rattle.driver.specs.Exports.{exported, exportedSent, codedSend, openFrom};
+ghost use Rattle.driver.specs.Exports.{exported, exportedReading, exportedMarker, copied, exportedSent, codedSend, openFrom};
 
 // A writer's answer as C gets it.
 fn code_of(w: Written) -> u32
@@ -38,6 +42,40 @@ pub extern "C" fn stripes_write_marker(line: u32, round: u32, counter: u32, out:
     code_of(marker::write_marker(m, out))
 }
 
+// The number at the front of s: 0 where there is none, else the number, with the place after it above its 32 bits.
+#[no_mangle]
+pub extern "C" fn stripes_read_number(s: &[u8]) -> u64
+    ensures { λ r. ⌜ r ≡ exportedReading (readingOf 32 (now (s .entry))) ⌝ }
+{
+    let Reading::Number(v, at) = numbers::read_number(s) else {
+        return 0;
+    };
+    v as u64 + 4_294_967_296 * at as u64
+}
+
+// Writes a number to the front of out: the length written, or 256 plus the number of the refusal.
+#[no_mangle]
+pub extern "C" fn stripes_write_number(value: u32, out: &mut [u8]) -> u32
+    ensures { λ r. ⌜ (r ≡ exported (written (coded 32 value) (now (out .entry)) .answer))
+        × (now (out .exit) ≡ written (coded 32 value) (now (out .entry)) .out) ⌝ }
+{
+    code_of(numbers::write_number(value, out))
+}
+
+// The standalone reading of a marker: line, counter and round side by side, or bit 25, which no marker in range reaches, with the number of the
+// refusal.
+#[no_mangle]
+pub extern "C" fn stripes_read_marker(s: &[u8]) -> u64
+    ensures { λ r. ⌜ r ≡ exportedMarker (markerRead (now (s .entry))) ⌝ }
+{
+    match marker::read_marker(s) {
+        MarkerRead::Whole(m) => {
+            m.line as u64 + 16 * m.counter as u64 + 4_294_967_296 * m.round as u64
+        }
+        MarkerRead::Refused(number) => 33_554_432 + number as u64,
+    }
+}
+
 // The plan check: 0 for a record that reads, else the number of the refusal.
 #[no_mangle]
 pub extern "C" fn stripes_check_plan(s: &[u8]) -> u32
@@ -45,6 +83,18 @@ pub extern "C" fn stripes_check_plan(s: &[u8]) -> u32
 {
     let read = plan::read_plan(s);
     read.number
+}
+
+// Reads a plan record and writes that plan to the front of out: the length written, or 256 plus the number of the refusal. A record that is
+// refused reads as an all-zero plan, which no writer takes.
+#[no_mangle]
+pub extern "C" fn stripes_copy_plan(s: &[u8], out: &mut [u8]) -> u32
+    ensures { λ r. ⌜ (r ≡ exported (copied (now (s .entry)) (now (out .entry)) .answer))
+        × (now (out .exit) ≡ copied (now (s .entry)) (now (out .entry)) .out) ⌝ }
+{
+    let read = plan::read_plan(s);
+    let p = read.plan;
+    code_of(plan::write_plan(p, out))
 }
 
 // A send's answer as C gets it, and the next state.

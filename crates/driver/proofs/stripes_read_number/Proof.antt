@@ -1,0 +1,51 @@
+-- `driver::stripes_read_number` meets its contract: the number and its place fit side by side. Assumes nothing.
+use borrow.Author.Needs.{needs}
+use native.Mathlib.Omega.{arith}
+use mathlib.Core.Path.{_≡_, ap, sym, _∙_}
+use Rattle.numbers.specs.declared.Reading.the-variants.{Number}
+use Rattle.numbers.specs.Coding.{readingOf}
+use Rattle.driver.specs.Exports.{exportedReading}
+use Rattle.driver.proofs.Words.{reading-place}
+use Rattle.driver.proofs.stripes_read_number.Statement.{statement}
+use Rattle.driver.proofs.stripes_read_number.Tie as tie
+
+-- the number that was read
+told : (c : tie.After-v) → readingOf 32 (c .before .before .before .before .args .s .now) ≡ Number (c .v .given .0 .0) (c .v .given .0 .1 .0)
+told c = sym (c .before .before .read-number .ensures) ∙ c .v .given .1
+
+read-number-requires : tie.Need-read-number-requires
+read-number-requires c κs = search needs
+
+enum-known-v : tie.Need-enum-known-v
+enum-known-v c = search needs
+
+enum-told : tie.Need-enum-told
+enum-told c = search needs
+
+returns : tie.Need-returns
+returns c = ap exportedReading (sym (c .enum-told .given .1) ∙ c .before .before .read-number .ensures)
+
+cast-result : tie.Need-cast-result
+cast-result c = search needs
+
+mul-result : tie.Need-mul-result
+mul-result c = omega (arith, reading-place _ _ _ (told (c .before)))
+
+add-result : tie.Need-add-result
+add-result c = omega (arith, reading-place _ _ _ (told (c .before)))
+
+returns-2 : tie.Need-returns-2
+returns-2 c = sym (ap exportedReading (told (c .before)))
+
+pub stripes-read-number-spec : {M : Type 1} → statement M
+stripes-read-number-spec =
+    tie.close
+    (tie.spec
+    read-number-requires
+    enum-known-v
+    enum-told
+    returns
+    cast-result
+    mul-result
+    add-result
+    returns-2)

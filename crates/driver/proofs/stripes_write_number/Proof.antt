@@ -1,0 +1,28 @@
+-- `driver::stripes_write_number` meets its contract. Assumes nothing.
+use borrow.Author.Needs.{needs}
+use mathlib.Core.Path.{ap, _∙_}
+use Rattle.driver.specs.Exports.{exported}
+use Rattle.driver.proofs.Small.{value-small}
+use Rattle.driver.proofs.stripes_write_number.Statement.{statement}
+use Rattle.driver.proofs.stripes_write_number.Tie as tie
+
+write-number-requires : tie.Need-write-number-requires
+write-number-requires c κs = search needs
+
+code-of-requires : tie.Need-code-of-requires
+code-of-requires c κs =
+    let w = c .before .before in
+    let a = w .before .before .before .args in
+    rw (w .write-number .ensures .0) (value-small (a .value) (a .out .now))
+
+same-length : tie.Need-same-length
+same-length c = search needs
+
+returns : tie.Need-returns
+returns c =
+    let w = c .before .before .before in
+    (c .code-of .ensures ∙ ap exported (w .write-number .ensures .0), w .write-number .ensures .1)
+
+pub stripes-write-number-spec : {M : Type 1} → statement M
+stripes-write-number-spec =
+    tie.close (tie.spec write-number-requires code-of-requires same-length returns)
