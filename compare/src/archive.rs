@@ -6,6 +6,10 @@ use crate::stage::Receiver;
 extern "C" {
     fn stripes_write_marker(line: u32, round: u32, counter: u32, out: *mut u8, out_len: usize) -> u32;
     fn stripes_check_plan(record: *const u8, record_len: usize) -> u32;
+    fn stripes_read_number(bytes: *const u8, bytes_len: usize) -> u64;
+    fn stripes_write_number(value: u32, out: *mut u8, out_len: usize) -> u32;
+    fn stripes_read_marker(bytes: *const u8, bytes_len: usize) -> u64;
+    fn stripes_copy_plan(record: *const u8, record_len: usize, out: *mut u8, out_len: usize) -> u32;
     fn stripes_open(sender: *mut Sender, record: *const u8, record_len: usize) -> u32;
     fn stripes_send(sender: *mut Sender, length: usize) -> u32;
     fn stripes_marker(sender: *const Sender, line: u32, out: *mut u8, out_len: usize) -> u32;
@@ -23,6 +27,22 @@ pub fn write_marker(line: u32, round: u32, counter: u32, out: &mut [u8]) -> u32 
 
 pub fn check_plan(record: &[u8]) -> u32 {
     unsafe { stripes_check_plan(record.as_ptr(), record.len()) }
+}
+
+pub fn read_number(bytes: &[u8]) -> u64 {
+    unsafe { stripes_read_number(bytes.as_ptr(), bytes.len()) }
+}
+
+pub fn write_number(value: u32, out: &mut [u8]) -> u32 {
+    unsafe { stripes_write_number(value, out.as_mut_ptr(), out.len()) }
+}
+
+pub fn read_marker(bytes: &[u8]) -> u64 {
+    unsafe { stripes_read_marker(bytes.as_ptr(), bytes.len()) }
+}
+
+pub fn copy_plan(record: &[u8], out: &mut [u8]) -> u32 {
+    unsafe { stripes_copy_plan(record.as_ptr(), record.len(), out.as_mut_ptr(), out.len()) }
 }
 
 pub fn open(sender: &mut Sender, record: &[u8]) -> u32 {

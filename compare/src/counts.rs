@@ -8,6 +8,11 @@ const TAKES: [&str; 8] = ["data", "marker", "marker, bytes missing", "11", "wait
 
 /// Group by group, in the order in which they are printed.
 const WANTED: &[(&str, &[&str])] = &[
+    ("numbers read", &["1 byte", "2 bytes", "3 bytes", "4 bytes", "5 bytes", "none"]),
+    ("numbers written", &["1 byte", "2 bytes", "3 bytes", "4 bytes", "5 bytes", "8"]),
+    ("markers read by themselves", &RECORDS),
+    ("markers read by themselves, answers", &["good", "3", "5"]),
+    ("plans copied", &["copied", "1", "8"]),
     ("plan records", &RECORDS),
     ("plan records, answers", &["good", "1"]),
     ("markers written", &["3 bytes", "4 bytes", "5 bytes", "6 bytes", "7 bytes", "8 bytes", "9 bytes", "3", "5", "8"]),

@@ -21,6 +21,7 @@ mod play;
 mod positions;
 mod program;
 mod proved;
+mod readings;
 mod receiving;
 mod recorded;
 mod records;
@@ -37,7 +38,10 @@ use counts::Counts;
 const SEED: u64 = 2026;
 const LEAST_CALLS: u64 = 1_000_000;
 
-const PARTS: [Part; 11] = [
+const PARTS: [Part; 14] = [
+    Part { name: "numbers", cases: 300_000, play: readings::numbers, again: readings::numbers },
+    Part { name: "readings", cases: 200_000, play: readings::markers, again: readings::markers },
+    Part { name: "copies", cases: 100_000, play: readings::plans, again: readings::plans },
     Part { name: "plans", cases: 200_000, play: records::plans, again: records::plans },
     Part { name: "markers", cases: 400_000, play: records::markers, again: records::markers },
     Part { name: "senders", cases: 2_000, play: sending::sessions, again: sending::sessions },

@@ -79,9 +79,8 @@ pub fn check_plan(record: &[u8]) -> u32 {
     if plan_numbers(record).is_some() { 0 } else { PLAN }
 }
 
-/// The answer of an exported writer, and the output as it leaves it: a marker goes to the front, unless something refuses it.
-fn put_marker(refusal: Option<u32>, line: u32, round: u32, counter: u32, out: &[u8]) -> (u32, Vec<u8>) {
-    let record: Vec<u8> = [line, round, counter].iter().flat_map(|number| written(u128::from(*number))).collect();
+/// The answer of an exported writer, and the output as it leaves it: a record goes to the front, unless something refuses it.
+pub fn put(refusal: Option<u32>, record: &[u8], out: &[u8]) -> (u32, Vec<u8>) {
     let mut after = out.to_vec();
     if let Some(number) = refusal {
         return (REFUSED + number, after);
@@ -89,8 +88,34 @@ fn put_marker(refusal: Option<u32>, line: u32, round: u32, counter: u32, out: &[
     if out.len() < record.len() {
         return (REFUSED + OUTPUT, after);
     }
-    after[..record.len()].copy_from_slice(&record);
+    after[..record.len()].copy_from_slice(record);
     (record.len() as u32, after)
+}
+
+fn put_marker(refusal: Option<u32>, line: u32, round: u32, counter: u32, out: &[u8]) -> (u32, Vec<u8>) {
+    put(refusal, &record(&[u64::from(line), u64::from(round), u64::from(counter)]), out)
+}
+
+/// The standalone reading of a marker: line, round and counter, or the number.
+pub fn read_marker(bytes: &[u8]) -> Result<[u64; 3], u32> {
+    match numbers(bytes).as_deref() {
+        Some([line, round, counter]) if *counter >= 1 && *counter <= 1_048_576 => {
+            if *line < 16 { Ok([*line as u64, *round as u64, *counter as u64]) } else { Err(LINE) }
+        }
+        _ => Err(MARKER),
+    }
+}
+
+/// Reads a plan record and writes that plan.
+pub fn copy_plan(bytes: &[u8], out: &[u8]) -> (u32, Vec<u8>) {
+    match Plan::read(bytes) {
+        Some(plan) => {
+            let mut all = vec![plan.lines, plan.max, plan.interval];
+            all.extend(&plan.quanta[..plan.lines as usize]);
+            put(None, &record(&all.iter().map(|number| u64::from(*number)).collect::<Vec<u64>>()), out)
+        }
+        None => (REFUSED + PLAN, out.to_vec()),
+    }
 }
 
 pub fn write_marker(line: u32, round: u32, counter: u32, out: &[u8]) -> (u32, Vec<u8>) {

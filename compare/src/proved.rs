@@ -5,7 +5,11 @@ use crate::paper::Sender;
 use crate::stage::Receiver;
 use std::sync::atomic::{AtomicU64, Ordering};
 
-const NAMES: [&str; 10] = [
+const NAMES: [&str; 14] = [
+    "stripes_read_number",
+    "stripes_write_number",
+    "stripes_read_marker",
+    "stripes_copy_plan",
     "stripes_write_marker",
     "stripes_check_plan",
     "stripes_open",
@@ -28,6 +32,26 @@ fn count(name: &str) {
 /// How many calls there were, by function.
 pub fn calls() -> Vec<(&'static str, u64)> {
     NAMES.into_iter().zip(CALLS.iter().map(|calls| calls.load(Ordering::Relaxed))).collect()
+}
+
+pub fn read_number(bytes: &[u8]) -> u64 {
+    count("stripes_read_number");
+    archive::read_number(bytes)
+}
+
+pub fn write_number(value: u32, out: &mut [u8]) -> u32 {
+    count("stripes_write_number");
+    archive::write_number(value, out)
+}
+
+pub fn read_marker(bytes: &[u8]) -> u64 {
+    count("stripes_read_marker");
+    archive::read_marker(bytes)
+}
+
+pub fn copy_plan(record: &[u8], out: &mut [u8]) -> u32 {
+    count("stripes_copy_plan");
+    archive::copy_plan(record, out)
 }
 
 pub fn write_marker(line: u32, round: u32, counter: u32, out: &mut [u8]) -> u32 {
