@@ -109,7 +109,7 @@ static void numbers(void)
 /* What stripes_read_marker makes of the record of a marker in range, whole and cut. */
 static void marker_read(uint32_t line, uint32_t round, uint32_t counter, const char *what)
 {
-    uint8_t record[STRIPES_MARKER_MOST];
+    uint8_t record[STRIPES_MARKER_MOST] = { 0 };
     uint32_t length = stripes_write_marker(line, round, counter, record, sizeof record);
     uint64_t answer = stripes_read_marker(record, length);
 

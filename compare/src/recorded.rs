@@ -7,8 +7,8 @@ use crate::proved;
 use crate::replay::{printed, Ends, Second, UNUSED};
 use crate::stage::Receiver;
 
-const INPUT: &[u8] = include_bytes!("../recorded/stdin");
-const OUTPUT: &str = include_str!("../recorded/stdout");
+const INPUT: &[u8] = include_bytes!("../../crates/replay/stdin");
+const OUTPUT: &str = include_str!("../../crates/replay/stdout");
 
 /// Both ends of the archives.
 #[derive(Default)]
