@@ -1,4 +1,4 @@
--- What `read_up_to` answers at each of its returns.
+-- What `read_up_to` answers at each of its returns. Assumes nothing.
 use mathlib.Core.Path.{_≡_, refl}
 use Prim.Native.Nat.{ℕ, _+_, _-_, _*_, _/_, _≤_, _<_}
 use native.Mathlib.Omega.{arith}

@@ -1,3 +1,4 @@
+-- `numbers::read_up_to` meets its contract, need by need: each call reads the bits above the first seven, with the bound that is left. Assumes nothing.
 use borrow.Author.Needs.{needs}
 use mathlib.Core.Path.{_≡_, _∙_, sym}
 use native.Mathlib.Omega.{arith}

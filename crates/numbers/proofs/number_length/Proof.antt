@@ -1,4 +1,4 @@
--- `numbers::number_length` meets its contract: each turn of the loop passes one byte of the number's form.
+-- `numbers::number_length` meets its contract: each turn of the loop passes one byte of the number's form. Assumes nothing.
 use mathlib.Core.Path.{_≡_, refl, ap}
 use Prim.Native.Nat.{_+_, _≤_}
 use native.Mathlib.Omega.{arith}

@@ -1,3 +1,4 @@
+-- `numbers::read_number` meets its contract: it is the reading up to the largest number of 32 bits. Assumes nothing.
 use Rattle.numbers.specs.Coding.{readingOf}
 use borrow.Author.Needs.{needs}
 use Rattle.numbers.proofs.read_number.Statement.{statement}
