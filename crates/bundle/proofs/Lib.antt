@@ -13,4 +13,5 @@ pub mod Runs
 pub mod Refusals
 pub mod Drained
 pub mod Running
+pub mod Examples
 pub mod Proved

@@ -39,7 +39,7 @@ pub(crate) fn four(s: &[u8], i: usize) -> u32
 }
 
 // The bytes of all the lines' rings.
-pub fn rings(lines: u32, size: u32) -> usize {
+pub(crate) fn rings(lines: u32, size: u32) -> usize {
     lines as usize * size as usize
 }
 

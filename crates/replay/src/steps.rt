@@ -17,7 +17,7 @@ pub struct Ends {
     pub open: bool,
 }
 
-pub fn open_ends(p: Plan, size: u32) -> Ends {
+pub(crate) fn open_ends(p: Plan, size: u32) -> Ends {
     let booth = sender::open(p);
     let stage = receiver::open(p, size);
     let sender = booth.sender;
