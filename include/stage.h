@@ -31,16 +31,26 @@
 extern "C" {
 #endif
 
-/* The receiver. The driver holds one for each bundle, and beside it a store of plan.lines times size bytes; only these calls write to either.
- * Line i owns the `size` bytes of the store from i times `size`. Entries for lines from plan.lines on are ignored and kept. */
-struct stage_receiver {
-    struct stripes_plan plan;
+/* What is stored: line i owns the `size` bytes of the store from i times `size`, and holds `used` of them from `heads` on, round the end. */
+struct stage_rings {
     uint32_t size;
+    uint32_t heads[16];
+    uint32_t used[16];
+};
+
+/* Whose turn it is: the current round, and the round and the counter of each line. */
+struct stage_turns {
     uint32_t round;
     uint32_t rounds[16];
     uint32_t counters[16];
-    uint32_t heads[16];
-    uint32_t used[16];
+};
+
+/* The receiver. The driver holds one for each bundle, and beside it a store of plan.lines times rings.size bytes; only these calls write to either.
+ * Entries for lines from plan.lines on are ignored and kept. */
+struct stage_receiver {
+    struct stripes_plan plan;
+    struct stage_rings rings;
+    struct stage_turns turns;
 };
 
 /* Opens a receiver on the plan of a record, with `size` bytes of store for each line. Answers 0, or 1 with the closed state, all zeros, which

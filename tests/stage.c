@@ -81,7 +81,7 @@ static void sessions(void)
     for (unsigned i = 0; i < 6; i++)
         takes_packet(no_markers[i], lines[no_markers[i] - 1]);
     takes_word(STAGE_WAITING + 4 * 0, "waiting on line 0");
-    check(receiver.used[0] == 0 && receiver.used[1] == 3 + 100, "packet 8 is held");
+    check(receiver.rings.used[0] == 0 && receiver.rings.used[1] == 3 + 100, "packet 8 is held");
 
     feed(2, 1);
     takes_packet(1, 0);

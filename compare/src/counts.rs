@@ -47,7 +47,7 @@ const WANTED: &[(&str, &[&str])] = &[
     ("damaged receivers, takes of runs", &["data", "marker", "marker, bytes missing", "11"]),
     ("marker records that came", &RECORDS),
     ("texts for stripes", &["whole", "damaged", "refused somewhere"]),
-    ("recorded sessions", &["lines compared"]),
+    ("recorded steps", &["lines compared"]),
 ];
 
 struct Group {

@@ -22,7 +22,7 @@ struct Damage {
 
 /// The store cut, grown, or made as long as the state now asks, and which.
 fn change_length(receiver: &Receiver, store: &mut Vec<u8>, chance: &mut Chance) -> &'static str {
-    let asked = u64::from(receiver.plan.lines) * u64::from(receiver.size);
+    let asked = u64::from(receiver.plan.lines) * u64::from(receiver.rings.size);
     let (length, what) = match chance.between(0, 5) {
         0 => (0, "empty"),
         1 => (asked.saturating_sub(1), "one byte short"),

@@ -39,7 +39,7 @@ fn session(with_markers: bool) -> (String, u32) {
         let (word, out) = pair.take(&[0; 500]);
         all.push(told(word, &out));
     }
-    (all.join(", "), pair.receiver.used.iter().sum())
+    (all.join(", "), pair.receiver.rings.used.iter().sum())
 }
 
 /// The seed changes nothing: it is the session of the paper.

@@ -30,12 +30,12 @@ pub fn change_field(receiver: &mut Receiver, chance: &mut Chance) -> &'static st
         1 => (&mut receiver.plan.max, "max"),
         2 => (&mut receiver.plan.interval, "interval"),
         3 => (&mut receiver.plan.quanta[at], "quanta"),
-        4 => (&mut receiver.size, "size"),
-        5 => (&mut receiver.round, "round"),
-        6 => (&mut receiver.rounds[at], "rounds"),
-        7 => (&mut receiver.counters[at], "counters"),
-        8 => (&mut receiver.heads[at], "heads"),
-        _ => (&mut receiver.used[at], "used"),
+        4 => (&mut receiver.rings.size, "size"),
+        5 => (&mut receiver.turns.round, "round"),
+        6 => (&mut receiver.turns.rounds[at], "rounds"),
+        7 => (&mut receiver.turns.counters[at], "counters"),
+        8 => (&mut receiver.rings.heads[at], "heads"),
+        _ => (&mut receiver.rings.used[at], "used"),
     };
     *word = other_word(*word, chance);
     name
@@ -44,20 +44,20 @@ pub fn change_field(receiver: &mut Receiver, chance: &mut Chance) -> &'static st
 /// All rounds moved on alike, to the wrap or anywhere; now and then one of them 2^31 or nearly so from the current one.
 pub fn move_rounds(receiver: &mut Receiver, chance: &mut Chance) {
     let to = if chance.one_in(2) { u32::MAX - chance.between(0, 3) as u32 } else { chance.next() as u32 };
-    let by = to.wrapping_sub(receiver.round);
-    receiver.round = to;
-    for round in &mut receiver.rounds {
+    let by = to.wrapping_sub(receiver.turns.round);
+    receiver.turns.round = to;
+    for round in &mut receiver.turns.rounds {
         *round = round.wrapping_add(by);
     }
     if chance.one_in(3) {
-        receiver.rounds[chance.between(0, 15) as usize] = to.wrapping_add((1 << 31) - 2).wrapping_add(chance.between(0, 3) as u32);
+        receiver.turns.rounds[chance.between(0, 15) as usize] = to.wrapping_add((1 << 31) - 2).wrapping_add(chance.between(0, 3) as u32);
     }
 }
 
 /// A marker for a line, mostly good: its round near the line's or about 2^31 from it, its counter near the line's or the ends of its range; and
 /// whether it is whole, damaged or noise.
 pub fn marker(receiver: &Receiver, line: usize, chance: &mut Chance) -> (Vec<u8>, &'static str) {
-    let (round, counter, quantum) = (receiver.rounds[line % 16], receiver.counters[line % 16], receiver.plan.quanta[line % 16]);
+    let (round, counter, quantum) = (receiver.turns.rounds[line % 16], receiver.turns.counters[line % 16], receiver.plan.quanta[line % 16]);
     let ahead = match chance.between(0, 4) {
         0 | 1 => 0,
         2 => chance.between(0, 5) as u32,
@@ -92,15 +92,15 @@ pub fn data(receiver: &Receiver, chance: &mut Chance) -> Vec<u8> {
 
 /// The current line, mostly, or any that there could be.
 pub fn some_line(receiver: &Receiver, chance: &mut Chance) -> usize {
-    let current = receiver.rounds.iter().position(|round| *round == receiver.round);
+    let current = receiver.turns.rounds.iter().position(|round| *round == receiver.turns.round);
     current.filter(|_| !chance.one_in(4)).unwrap_or(chance.between(0, 15) as usize)
 }
 
 /// Bytes put over a line's ring from its head on, as far as the ring is in the store.
 pub fn put(receiver: &Receiver, line: usize, bytes: &[u8], store: &mut [u8]) {
-    if receiver.size > 0 {
+    if receiver.rings.size > 0 {
         for (behind, byte) in bytes.iter().enumerate() {
-            let place = line as u64 * u64::from(receiver.size) + (u64::from(receiver.heads[line]) + behind as u64) % u64::from(receiver.size);
+            let place = line as u64 * u64::from(receiver.rings.size) + (u64::from(receiver.rings.heads[line]) + behind as u64) % u64::from(receiver.rings.size);
             if let Some(at) = store.get_mut(place as usize) {
                 *at = *byte;
             }
@@ -118,9 +118,9 @@ pub fn forge(receiver: &mut Receiver, store: &mut [u8], chance: &mut Chance) {
     let item: Vec<u8> = [kind, length as u8, (length >> 8) as u8].into_iter().chain(bytes).collect();
     put(receiver, line, &item, store);
     if !chance.one_in(4) {
-        let most = u64::from(receiver.size);
+        let most = u64::from(receiver.rings.size);
         let needed = item.len() as u64;
-        receiver.used[line] = match chance.between(0, 5) {
+        receiver.rings.used[line] = match chance.between(0, 5) {
             0 => chance.between(0, 3).min(most),
             1 => (needed - 1).min(most),
             2 => chance.between(needed.min(most), most),
@@ -132,10 +132,10 @@ pub fn forge(receiver: &mut Receiver, store: &mut [u8], chance: &mut Chance) {
 /// A line's whole ring as noise, small numbers often among it, and any of it used.
 pub fn fill_with_noise(receiver: &mut Receiver, store: &mut [u8], chance: &mut Chance) {
     let line = some_line(receiver, chance) % receiver.plan.lines.max(1) as usize;
-    let size = receiver.size as usize;
+    let size = receiver.rings.size as usize;
     for byte in &mut store[line * size..(line + 1) * size] {
         *byte = if chance.one_in(2) { chance.between(0, 2) as u8 } else { chance.next() as u8 };
     }
-    receiver.heads[line] = chance.between(0, size as u64 - 1) as u32;
-    receiver.used[line] = chance.near(0, size as u64).min(size as u64) as u32;
+    receiver.rings.heads[line] = chance.between(0, size as u64 - 1) as u32;
+    receiver.rings.used[line] = chance.near(0, size as u64).min(size as u64) as u32;
 }

@@ -3,7 +3,7 @@
 
 use crate::cases::differs;
 use crate::paper::Plan;
-use crate::stage::Receiver;
+use crate::stage::{Receiver, Rings, Turns};
 use crate::{plain, proved};
 
 const BEHIND: usize = 8;
@@ -19,7 +19,9 @@ pub struct Pair {
 fn unopened() -> Receiver {
     const WORD: u32 = 0xEEEE_EEEE;
     let plan = Plan { lines: WORD, max: WORD, interval: WORD, quanta: [WORD; 16] };
-    Receiver { plan, size: WORD, round: WORD, rounds: [WORD; 16], counters: [WORD; 16], heads: [WORD; 16], used: [WORD; 16] }
+    let rings = Rings { size: WORD, heads: [WORD; 16], used: [WORD; 16] };
+    let turns = Turns { round: WORD, rounds: [WORD; 16], counters: [WORD; 16] };
+    Receiver { plan, rings, turns }
 }
 
 /// The answer of an opening, and the state it leaves.

@@ -55,26 +55,26 @@ fn marker(bytes: &[u8]) -> Option<(u32, u32, u32)> {
 
 /// The line to take from once this one's round has risen; the current round moves on where no line is left at it.
 fn next_line(receiver: &mut Receiver, line: usize) -> usize {
-    let rounds = &receiver.rounds[..receiver.plan.lines as usize];
-    if let Some(after) = rounds[line + 1..].iter().position(|round| *round == receiver.round) {
+    let rounds = &receiver.turns.rounds[..receiver.plan.lines as usize];
+    if let Some(after) = rounds[line + 1..].iter().position(|round| *round == receiver.turns.round) {
         return line + 1 + after;
     }
-    let ahead = |line: &usize| rounds[*line].wrapping_sub(receiver.round);
+    let ahead = |line: &usize| rounds[*line].wrapping_sub(receiver.turns.round);
     let nearest = (0..rounds.len()).min_by_key(ahead).unwrap_or(0);
-    receiver.round = rounds[nearest];
+    receiver.turns.round = rounds[nearest];
     nearest
 }
 
 /// Takes the bytes of a data item to the output. Answers its word and whether the line's round has risen.
 fn take_data(receiver: &mut Receiver, line: usize, ring: &Ring, out: &mut [u8]) -> (u64, bool) {
     ring.copy(3, out);
-    let (counter, length) = (receiver.counters[line], out.len() as u32);
+    let (counter, length) = (receiver.turns.counters[line], out.len() as u32);
     let raised = counter <= length;
     if raised {
-        receiver.counters[line] = counter + receiver.plan.quanta[line] - length;
-        receiver.rounds[line] = receiver.rounds[line].wrapping_add(1);
+        receiver.turns.counters[line] = counter + receiver.plan.quanta[line] - length;
+        receiver.turns.rounds[line] = receiver.turns.rounds[line].wrapping_add(1);
     } else {
-        receiver.counters[line] = counter - length;
+        receiver.turns.counters[line] = counter - length;
     }
     (4 * line as u64 + 64 * u64::from(length), raised)
 }
@@ -89,13 +89,13 @@ fn take_marker(receiver: &mut Receiver, line: usize, ring: &Ring, length: usize)
     if named as usize != line || counter == 0 || counter > quantum {
         return None;
     }
-    let ahead = round.wrapping_sub(receiver.rounds[line]);
-    if ahead >= 1 << 31 || ahead == 0 && counter > receiver.counters[line] {
+    let ahead = round.wrapping_sub(receiver.turns.rounds[line]);
+    if ahead >= 1 << 31 || ahead == 0 && counter > receiver.turns.counters[line] {
         return Some((2 + 4 * line as u64, false));
     }
-    let missing = u64::from(ahead) * u64::from(quantum) + u64::from(receiver.counters[line]) - u64::from(counter);
-    receiver.rounds[line] = round;
-    receiver.counters[line] = counter;
+    let missing = u64::from(ahead) * u64::from(quantum) + u64::from(receiver.turns.counters[line]) - u64::from(counter);
+    receiver.turns.rounds[line] = round;
+    receiver.turns.counters[line] = counter;
     Some((1 + 4 * line as u64 + 64 * missing, ahead > 0))
 }
 
@@ -104,15 +104,15 @@ pub fn takes(receiver: &mut Receiver, store: &[u8], out: &mut [u8], log: &mut [u
     if log.is_empty() || receiver.refusal(store).is_some() {
         return 0;
     }
-    let (size, max) = (receiver.size as usize, receiver.plan.max as usize);
+    let (size, max) = (receiver.rings.size as usize, receiver.plan.max as usize);
     let mut line = receiver.current();
     let mut written = 0;
     for (done, word) in log.iter_mut().enumerate() {
-        let used = receiver.used[line] as usize;
+        let used = receiver.rings.used[line] as usize;
         if used < 3 {
             return done;
         }
-        let ring = Ring { bytes: &store[line * size..][..size], head: receiver.heads[line] as usize };
+        let ring = Ring { bytes: &store[line * size..][..size], head: receiver.rings.heads[line] as usize };
         let length = usize::from(u16::from_le_bytes([ring.byte(1), ring.byte(2)]));
         if 3 + length > used {
             return done;
@@ -130,8 +130,8 @@ pub fn takes(receiver: &mut Receiver, store: &[u8], out: &mut [u8], log: &mut [u
             return done;
         };
         *word = answer;
-        receiver.heads[line] = ring.place(3 + length) as u32;
-        receiver.used[line] = (used - 3 - length) as u32;
+        receiver.rings.heads[line] = ring.place(3 + length) as u32;
+        receiver.rings.used[line] = (used - 3 - length) as u32;
         if raised {
             line = next_line(receiver, line);
         }

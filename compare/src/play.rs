@@ -133,8 +133,8 @@ pub fn sessions(seed: u64, counts: &mut Counts) {
     let receiver = session.pair.receiver;
     counts.line_count("sessions of both ends, by lines", receiver.plan.lines);
     count_corners("sessions of both ends, at an end of a range", &receiver.plan, counts);
-    counts.add(SIZES, "S Max + 3", u64::from(receiver.size == receiver.plan.max + 3));
-    counts.add(SIZES, "S 65536", u64::from(receiver.size == 65536));
+    counts.add(SIZES, "S Max + 3", u64::from(receiver.rings.size == receiver.plan.max + 3));
+    counts.add(SIZES, "S 65536", u64::from(receiver.rings.size == 65536));
     session.play(chance, counts);
     counts.add(SESSIONS, "every round passed 2^32", u64::from(session.far.rounds_from(1 << 32)));
     counts.add(SESSIONS, "every ring wrapped three times", u64::from(session.far.least_wraps() >= 3));

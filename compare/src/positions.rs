@@ -135,14 +135,14 @@ impl FarEnd {
     pub fn shows(&self, receiver: &Receiver) -> bool {
         let line_shows = |line: usize| {
             let (at, round) = (&self.lines[line], self.round(line));
-            receiver.rounds[line] == round as u32
-                && u128::from(receiver.counters[line]) + at.position == self.quantum(line) * round
-                && receiver.used[line] as usize == at.tape.len() - at.taken
-                && receiver.heads[line] as usize == at.taken - at.taken / self.size * self.size
+            receiver.turns.rounds[line] == round as u32
+                && u128::from(receiver.turns.counters[line]) + at.position == self.quantum(line) * round
+                && receiver.rings.used[line] as usize == at.tape.len() - at.taken
+                && receiver.rings.heads[line] as usize == at.taken - at.taken / self.size * self.size
         };
         receiver.plan == self.plan
-            && receiver.size as usize == self.size
-            && receiver.round == self.round(self.current()) as u32
+            && receiver.rings.size as usize == self.size
+            && receiver.turns.round == self.round(self.current()) as u32
             && (0..self.lines.len()).all(line_shows)
     }
 

@@ -1,66 +1,76 @@
-//! Plays the recorded sessions through the archives: they must print what was recorded from the second program alone.
+//! Plays the recording through the archives: it must print what was recorded from the second program alone, and bring about all that a recording
+//! must.
 
 use crate::cases::{begin, differs};
 use crate::counts::Counts;
 use crate::paper::Sender;
+use crate::player::{printed, unseen, Calls, Second};
 use crate::proved;
-use crate::replay::{printed, Ends, Second, UNUSED};
 use crate::stage::Receiver;
 
-const INPUT: &[u8] = include_bytes!("../../crates/replay/stdin");
-const OUTPUT: &str = include_str!("../../crates/replay/stdout");
+const INPUT: &[u8] = include_bytes!("../../crates/player/stdin");
+const OUTPUT: &str = include_str!("../../crates/player/stdout");
 
-/// Both ends of the archives.
-#[derive(Default)]
-struct Proved {
-    sender: Sender,
-    receiver: Receiver,
-    store: Vec<u8>,
+/// The archives'.
+struct Proved;
+
+impl Calls for Proved {
+    fn check_plan(&self, record: &[u8]) -> u32 {
+        proved::check_plan(record)
+    }
+
+    fn copy_plan(&self, record: &[u8], out: &mut [u8]) -> u32 {
+        proved::copy_plan(record, out)
+    }
+
+    fn open_sender(&self, sender: &mut Sender, record: &[u8]) -> u32 {
+        proved::open(sender, record)
+    }
+
+    fn open_receiver(&self, receiver: &mut Receiver, record: &[u8], size: u32) -> u32 {
+        proved::open_receiver(receiver, record, size)
+    }
+
+    fn send(&self, sender: &mut Sender, length: usize) -> u32 {
+        proved::send(sender, length)
+    }
+
+    fn ask(&self, sender: &Sender, line: u32, out: &mut [u8]) -> u32 {
+        proved::marker(sender, line, out)
+    }
+
+    fn data(&self, receiver: &mut Receiver, line: u32, bytes: &[u8], store: &mut [u8]) -> u32 {
+        proved::data_arrives(receiver, line, bytes, store)
+    }
+
+    fn marker(&self, receiver: &mut Receiver, line: u32, bytes: &[u8], store: &mut [u8]) -> u32 {
+        proved::marker_arrives(receiver, line, bytes, store)
+    }
+
+    fn take(&self, receiver: &mut Receiver, store: &[u8], out: &mut [u8]) -> u64 {
+        proved::take(receiver, store, out)
+    }
+
+    fn takes(&self, receiver: &mut Receiver, store: &[u8], out: &mut [u8], log: &mut [u64]) -> usize {
+        proved::takes(receiver, store, out, log)
+    }
 }
 
-impl Ends for Proved {
-    fn open(&mut self, record: &[u8], size: u32) -> u32 {
-        let number = proved::open(&mut self.sender, record).max(proved::open_receiver(&mut self.receiver, record, size));
-        self.store = vec![UNUSED; (self.receiver.plan.lines * self.receiver.size) as usize];
-        number
-    }
-
-    fn send(&mut self, length: usize) -> u32 {
-        proved::send(&mut self.sender, length)
-    }
-
-    fn ask(&mut self, line: u32, out: &mut [u8]) -> u32 {
-        proved::marker(&self.sender, line, out)
-    }
-
-    fn data(&mut self, line: u32, bytes: &[u8]) -> u32 {
-        proved::data_arrives(&mut self.receiver, line, bytes, &mut self.store)
-    }
-
-    fn marker(&mut self, line: u32, bytes: &[u8]) -> u32 {
-        proved::marker_arrives(&mut self.receiver, line, bytes, &mut self.store)
-    }
-
-    fn take(&mut self, out: &mut [u8]) -> u64 {
-        proved::take(&mut self.receiver, &self.store, out)
-    }
-
-    fn left(&self) -> (&Sender, &Receiver, &[u8]) {
-        (&self.sender, &self.receiver, &self.store)
-    }
-}
-
-/// The seed changes nothing: the sessions are the recorded ones.
+/// The seed changes nothing: the steps are the recorded ones.
 pub fn compare(seed: u64, counts: &mut Counts) {
     begin("recorded", seed);
-    for (side, text) in [("the archives", printed(INPUT, &mut Proved::default())), ("the second program", printed(INPUT, &mut Second::default()))] {
+    for (side, text) in [("the archives", printed(INPUT, &Proved)), ("the second program", printed(INPUT, &Second))] {
         if let Some(at) = text.lines().zip(OUTPUT.lines()).position(|(one, other)| one != other) {
             let lines = (text.lines().nth(at).unwrap_or(""), OUTPUT.lines().nth(at).unwrap_or(""));
-            differs("the recorded sessions", format!("{side}, line {}: {:?} and recorded {:?}", at + 1, lines.0, lines.1));
+            differs("the recording", format!("{side}, line {}: {:?} and recorded {:?}", at + 1, lines.0, lines.1));
         }
         if text != OUTPUT {
-            differs("the recorded sessions", format!("{side}: {} bytes and recorded {}", text.len(), OUTPUT.len()));
+            differs("the recording", format!("{side}: {} bytes and recorded {}", text.len(), OUTPUT.len()));
         }
     }
-    counts.add("recorded sessions", "lines compared", OUTPUT.lines().count() as u64);
+    let unseen = unseen(OUTPUT);
+    if !unseen.is_empty() {
+        differs("the recording", format!("it lacks {}", unseen.join(", ")));
+    }
+    counts.add("recorded steps", "lines compared", OUTPUT.lines().count() as u64);
 }

@@ -106,9 +106,9 @@ impl Session {
         assert_eq!(number, 0);
         // both ends as they are when each line has carried its quantum so many times, or as opened
         let round = if chance.one_in(2) { u32::MAX - chance.between(0, 9) as u32 } else { 1 };
-        receiver.rounds[..receiver.plan.lines as usize].fill(round);
-        receiver.round = round;
-        let before = chance.bytes((receiver.plan.lines * receiver.size) as usize);
+        receiver.turns.rounds[..receiver.plan.lines as usize].fill(round);
+        receiver.turns.round = round;
+        let before = chance.bytes((receiver.plan.lines * receiver.rings.size) as usize);
         let mut lines: Vec<Line> = receiver.lines().map(|_| Line::default()).collect();
         for line in lines.iter_mut().filter(|_| lossy) {
             line.loses = Some(chance.between(2, 30));
@@ -116,7 +116,7 @@ impl Session {
         Session {
             booth: Booth::open(&record, round),
             pair: Pair::new(receiver, before.clone()),
-            far: FarEnd::open_at(receiver.plan, receiver.size, round),
+            far: FarEnd::open_at(receiver.plan, receiver.rings.size, round),
             before,
             lines,
             packets: Vec::new(),

@@ -3,17 +3,30 @@
 
 use crate::paper::{numbers, Plan, LENGTH, LINE, MARKER, OTHER_LINE, PLAN, ROOM, STATE, STORE};
 
-/// As the archive has it: the store's bytes for each line, the current round, and for each line round, counter, head and used.
+/// As the archive has it: the store's bytes for each line, and for each line head and used.
+#[repr(C)]
+#[derive(Clone, Copy, Debug, Default, PartialEq, Eq)]
+pub struct Rings {
+    pub size: u32,
+    pub heads: [u32; 16],
+    pub used: [u32; 16],
+}
+
+/// The current round, and for each line round and counter.
+#[repr(C)]
+#[derive(Clone, Copy, Debug, Default, PartialEq, Eq)]
+pub struct Turns {
+    pub round: u32,
+    pub rounds: [u32; 16],
+    pub counters: [u32; 16],
+}
+
 #[repr(C)]
 #[derive(Clone, Copy, Debug, Default, PartialEq, Eq)]
 pub struct Receiver {
     pub plan: Plan,
-    pub size: u32,
-    pub round: u32,
-    pub rounds: [u32; 16],
-    pub counters: [u32; 16],
-    pub heads: [u32; 16],
-    pub used: [u32; 16],
+    pub rings: Rings,
+    pub turns: Turns,
 }
 
 /// What an item can be.
@@ -28,8 +41,10 @@ impl Receiver {
         let Some(plan) = plan else {
             return (PLAN, Receiver::default());
         };
-        let mut receiver = Receiver { plan, size, round: 1, counters: plan.quanta, ..Receiver::default() };
-        receiver.rounds[..plan.lines as usize].fill(1);
+        let rings = Rings { size, ..Rings::default() };
+        let turns = Turns { round: 1, counters: plan.quanta, ..Turns::default() };
+        let mut receiver = Receiver { plan, rings, turns };
+        receiver.turns.rounds[..plan.lines as usize].fill(1);
         (0, receiver)
     }
 
@@ -39,18 +54,18 @@ impl Receiver {
 
     pub fn is_valid(&self) -> bool {
         self.plan.in_range()
-            && (self.plan.max + 3..=65536).contains(&self.size)
-            && self.lines().all(|line| (1..=self.plan.quanta[line]).contains(&self.counters[line]))
-            && self.lines().all(|line| self.heads[line] < self.size && self.used[line] <= self.size)
-            && self.lines().all(|line| self.rounds[line].wrapping_sub(self.round) < 1 << 31)
-            && self.lines().any(|line| self.rounds[line] == self.round)
+            && (self.plan.max + 3..=65536).contains(&self.rings.size)
+            && self.lines().all(|line| (1..=self.plan.quanta[line]).contains(&self.turns.counters[line]))
+            && self.lines().all(|line| self.rings.heads[line] < self.rings.size && self.rings.used[line] <= self.rings.size)
+            && self.lines().all(|line| self.turns.rounds[line].wrapping_sub(self.turns.round) < 1 << 31)
+            && self.lines().any(|line| self.turns.rounds[line] == self.turns.round)
     }
 
     /// The number that a call gets for its state and its store's length, before all else.
     pub fn refusal(&self, store: &[u8]) -> Option<u32> {
         if !self.is_valid() {
             Some(STATE)
-        } else if store.len() != self.plan.lines as usize * self.size as usize {
+        } else if store.len() != self.plan.lines as usize * self.rings.size as usize {
             Some(STORE)
         } else {
             None
@@ -59,13 +74,13 @@ impl Receiver {
 
     /// The lowest-numbered line at the current round, of a valid state.
     pub fn current(&self) -> usize {
-        self.lines().find(|line| self.rounds[*line] == self.round).expect("some line is at it")
+        self.lines().find(|line| self.turns.rounds[*line] == self.turns.round).expect("some line is at it")
     }
 
     /// Where in the store the byte lies that is so many behind a line's head.
     pub fn place(&self, line: usize, behind: usize) -> usize {
-        let size = self.size as usize;
-        line * size + (self.heads[line] as usize + behind) % size
+        let size = self.rings.size as usize;
+        line * size + (self.rings.heads[line] as usize + behind) % size
     }
 
     /// 4 where the data cannot be an item, else 0.
@@ -87,15 +102,15 @@ impl Receiver {
 
     /// Puts an item behind a line's last, where there is room for it.
     fn store_item(&mut self, line: usize, kind: u8, bytes: &[u8], store: &mut [u8]) -> u32 {
-        if ((self.size - self.used[line]) as usize) < 3 + bytes.len() {
+        if ((self.rings.size - self.rings.used[line]) as usize) < 3 + bytes.len() {
             return ROOM;
         }
         let length = bytes.len() as u16;
         let front = [kind, length as u8, (length >> 8) as u8];
         for (at, byte) in front.iter().chain(bytes).enumerate() {
-            store[self.place(line, self.used[line] as usize + at)] = *byte;
+            store[self.place(line, self.rings.used[line] as usize + at)] = *byte;
         }
-        self.used[line] += 3 + u32::from(length);
+        self.rings.used[line] += 3 + u32::from(length);
         0
     }
 
@@ -127,7 +142,7 @@ impl Receiver {
 
     /// The item at a line's head and its bytes in all, or nothing where it cannot be one.
     pub fn head_item(&self, line: usize, store: &[u8]) -> Option<(Item, u32)> {
-        let used = self.used[line] as usize;
+        let used = self.rings.used[line] as usize;
         let held = |from: usize, to: usize| (from..to).map(|behind| store[self.place(line, behind)]).collect::<Vec<u8>>();
         if used < 3 {
             return None;

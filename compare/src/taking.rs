@@ -38,7 +38,7 @@ impl Receiver {
             return Outcome::Refused(number);
         }
         let line = self.current();
-        if self.used[line] == 0 {
+        if self.rings.used[line] == 0 {
             return Outcome::Waiting { line };
         }
         let Some((item, all)) = self.head_item(line, store) else {
@@ -53,30 +53,30 @@ impl Receiver {
             }
             Item::Marker { round, counter } => self.apply(line, round, counter),
         };
-        self.heads[line] = (self.heads[line] + all) % self.size;
-        self.used[line] -= all;
+        self.rings.heads[line] = (self.rings.heads[line] + all) % self.rings.size;
+        self.rings.used[line] -= all;
         outcome
     }
 
     /// The counter moves as in sending.
     fn charge(&mut self, line: usize, length: usize) {
-        let counter = i64::from(self.counters[line]) - length as i64;
+        let counter = i64::from(self.turns.counters[line]) - length as i64;
         if counter > 0 {
-            self.counters[line] = counter as u32;
+            self.turns.counters[line] = counter as u32;
         } else {
-            self.counters[line] = (counter + i64::from(self.plan.quanta[line])) as u32;
-            self.rounds[line] = self.rounds[line].wrapping_add(1);
+            self.turns.counters[line] = (counter + i64::from(self.plan.quanta[line])) as u32;
+            self.turns.rounds[line] = self.turns.rounds[line].wrapping_add(1);
             self.raised();
         }
     }
 
     fn apply(&mut self, line: usize, round: u32, counter: u32) -> Outcome {
-        let ahead = round.wrapping_sub(self.rounds[line]);
-        if ahead >= 1 << 31 || ahead == 0 && counter > self.counters[line] {
+        let ahead = round.wrapping_sub(self.turns.rounds[line]);
+        if ahead >= 1 << 31 || ahead == 0 && counter > self.turns.counters[line] {
             return Outcome::Behind { line };
         }
-        let missing = u64::from(ahead) * u64::from(self.plan.quanta[line]) + u64::from(self.counters[line]) - u64::from(counter);
-        (self.rounds[line], self.counters[line]) = (round, counter);
+        let missing = u64::from(ahead) * u64::from(self.plan.quanta[line]) + u64::from(self.turns.counters[line]) - u64::from(counter);
+        (self.turns.rounds[line], self.turns.counters[line]) = (round, counter);
         if ahead > 0 {
             self.raised();
         }
@@ -85,9 +85,9 @@ impl Receiver {
 
     /// A line's round has risen: where no line is left at the current round, it becomes the nearest that some line has.
     fn raised(&mut self) {
-        if self.lines().all(|line| self.rounds[line] != self.round) {
-            let nearest = self.lines().map(|line| self.rounds[line].wrapping_sub(self.round)).min().expect("a plan has a line");
-            self.round = self.round.wrapping_add(nearest);
+        if self.lines().all(|line| self.turns.rounds[line] != self.turns.round) {
+            let nearest = self.lines().map(|line| self.turns.rounds[line].wrapping_sub(self.turns.round)).min().expect("a plan has a line");
+            self.turns.round = self.turns.round.wrapping_add(nearest);
         }
     }
 

@@ -2,7 +2,7 @@
 use Prim.Native.Nat.{ℕ, _+_, _-_, _≤_, _<_}
 use mathlib.Core.Bool.{Bool, true, false, _&&_, cond}
 use mathlib.Core.List.{List, [], _∷_, _++_, map, map-append, append-nil, nil≢cons, cons≢nil, head-eq-of-cons-eq}
-use mathlib.Core.Logic.{inl, inr, dite}
+use mathlib.Core.Logic.{dite}
 use mathlib.Core.Path.{_≡_, refl, sym, ap, _∙_, subst, fun-ext}
 use native.Mathlib.Omega.{arith}
 use native.Mathlib.Decide.{decLt}
@@ -11,137 +11,143 @@ use lib.Dec.{eqb}
 use lib.ListN.{length}
 use Rattle.plan.specs.declared.Plan.{Plan}
 use Rattle.plan.specs.Limits.{itemHead}
-use Rattle.plan.specs.Plan.{at, planOk}
+use Rattle.plan.specs.Plan.{planOk}
 use Rattle.theory.specs.System.{Item, State, positions, arrived, arriveOf, dropped, run}
 use Rattle.theory.specs.System as T
 use Rattle.theory.proofs.Lines.{arrived-position, dropped-position, dropped-store}
 use Rattle.theory.proofs.Histories.{at-field, at-all}
-use Rattle.ring.specs.Queue.{Entry, entry}
-use Rattle.receiver.specs.declared.Receiver.{Receiver}
-use Rattle.receiver.specs.Receiver.{receiverOk, storeFits}
-use Rattle.receiver.specs.Arriving.{Arrival, withItem, arrival, room}
-use Rattle.receiver.specs.History.{Stage, stage}
-use Rattle.receiver.proofs.Storing.{Lands, left, data-lands, marker-lands, landed-holds, landed-sound, landed-plan}
-use Rattle.receiver.proofs.Arrivals.{data-stored, marker-stored}
-use Rattle.receiver.proofs.Valid.{data-valid, marker-valid}
-use Rattle.bundle.specs.Worlds.{Parcel, World, arrives, withRoad, landing, landed, call}
-use Rattle.bundle.specs.Log.{logged, landStep, arriveStep, markOf, parcelOf, entryOf}
+use Rattle.ring.specs.Queue.{Entry}
+use Rattle.receiving.specs.declared.Receiver.{Receiver}
+use Rattle.receiving.specs.declared.Turns.{Turns}
+use Rattle.receiving.specs.Receiver.{turnOf, receiverOk, storeFits}
+use Rattle.receiving.specs.Arriving.{Arrival, placeOf, arrival, roomNumber}
+use Rattle.receiving.specs.Stage.{Stage, stage}
+use Rattle.receiving.proofs.Storing.{Lands, left, data-lands, marker-lands, landed-holds, landed-sound, landed-plan, landed-turns}
+use Rattle.receiving.proofs.Arrivals.{data-stored, marker-stored}
+use Rattle.receiving.proofs.Valid.{data-valid, marker-valid}
+use Rattle.bundle.specs.Events.{Parcel, packet, marker, Event, stored, turned-away, asEntry}
+use Rattle.bundle.specs.Worlds.{World, arrives, landing, landSeen, arriveSeen, seen, landed, roadsAfter, call}
+use Rattle.bundle.specs.Log.{stepsOf, markOf, parcelOf, entryOf}
 use Rattle.bundle.specs.Words.{bytesOf}
 use Rattle.bundle.proofs.Meeting.{theirs, Fits, AllFit, Shows, Meets}
 use Rattle.bundle.proofs.Marks.{mark, mark-read}
 use Rattle.bundle.proofs.Roads.{fit-append, meets, left-road, lose-line}
 
--- an arrival moves no line's round or counter
-pub figures-stay : {A : Type 0} (g : Receiver → A) (r : Receiver) (i kind : ℕ) (b store : List ℕ) (a : Arrival) → Lands r i kind b store a
-    → ((n : ℕ) → g (withItem r i n) ≡ g r) → g (a .arrived .next) ≡ g r
-figures-stay g r i kind b store a (inl (has, e)) same = ap (λ (a : Arrival). g (a .arrived .next)) e ∙ same (itemHead + length b)
-figures-stay g r i kind b store a (inr (some, e)) same = ap (λ (a : Arrival). g (a .arrived .next)) e
+-- ---- a parcel, packet or marker
+
+pub land-lands : (r : Receiver) (store : List ℕ) (i : ℕ) (x : Parcel) → Lands r i (asEntry x .kind) (asEntry x .bytes) store (landing r store i x)
+land-lands r store i (packet b) = data-lands r i b store
+land-lands r store i (marker b) = marker-lands r i b store
+
+pub land-valid : (r : Receiver) (store : List ℕ) (i : ℕ) (x : Parcel) → receiverOk r ≡ true → receiverOk (landing r store i x .arrived .next) ≡ true
+land-valid r store i (packet b) = data-valid r i b store
+land-valid r store i (marker b) = marker-valid r i b store
 
 -- what line j gets of an item that comes on line i: the item, where it is line i's and stored
 abbrev got : ℕ → Bool → Item → ℕ → List Item
 got i ok x j = cond (eqb i j && ok) (x ∷ []) []
 
--- an item x, the oldest under way on line i, comes as `kind` and bytes b, and the arrival is a
-module _ (p : Plan) (w : World) (s : State) (m : Meets p w s) (i kind : ℕ) (b : List ℕ) (a : Arrival)
-    (lands : Lands (w .receiver) i kind b (w .store) a) (valid : receiverOk (a .arrived .next) ≡ true)
-    (x : Item) (is : entryOf p i x ≡ entry kind b) (rest : List Item) (e : s .line i .road ≡ x ∷ rest)
-  where
-    abbrev was : Stage
-    was = stage (w .receiver) (w .store)
+-- an item x, the oldest under way on line i, comes
+module _ (p : Plan) (w : World) (s : State) (m : Meets p w s) (i : ℕ) (x : Item) (rest : List Item) (e : s .line i .road ≡ x ∷ rest) where
+  abbrev was : Stage
+  was = stage (w .receiver) (w .store)
 
-    abbrev ok : Bool
-    ok = eqb (a .arrived .number) 0
+  abbrev parcel : Parcel
+  parcel = parcelOf p i x
 
-    got-entries : (j : ℕ) (t : Bool) → eqb i j ≡ t → (u : Bool)
-        → cond (t && u) (entry kind b ∷ []) [] ≡ map (entryOf p j) (cond (t && u) (x ∷ []) [])
-    got-entries j true q true = ap (λ (e : Entry). e ∷ []) (sym is ∙ ap (λ (k : ℕ). entryOf p k x) (eqb-true i j q))
-    got-entries j true q false = refl
-    got-entries j false q u = refl
+  abbrev a : Arrival
+  a = landing (w .receiver) (w .store) i parcel
 
-    got-fit : (t : Bool) → AllFit p (cond t (x ∷ []) [])
-    got-fit true = let all : AllFit p (x ∷ rest) = rw e at (m .on-road i) in (all .0, tt)
-    got-fit false = tt
+  abbrev kind : ℕ
+  kind = asEntry parcel .kind
 
-    -- the far end, by what its queues hold now
-    far : (v : ℕ → ℕ) (items : ℕ → List Item) → v ≡ positions s → ((j : ℕ) → items j ≡ s .line j .store ++ got i ok x j)
-        → Shows p (left a) v items
-    far v items place queues =
-        let f = m .far in
-        let r = w .receiver in
-        let lines : p .lines ≡ r .plan .lines = ap (λ (p : Plan). p .lines) (sym (f .plan)) in
-        let rounds = figures-stay (λ r. r .rounds) r i kind b (w .store) a lands (λ n. refl) in
-        let counters = figures-stay (λ r. r .counters) r i kind b (w .store) a lands (λ n. refl) in
-        let round = figures-stay (λ r. r .round) r i kind b (w .store) a lands (λ n. refl) in
-        rw place (record {
-          plan = landed-plan was (f .sound) i kind b a lands ∙ f .plan;
-          sound = landed-sound was (f .sound) i kind b a lands valid;
-          rounds-length = rw rounds (f .rounds-length);
-          counters-length = rw counters (f .counters-length);
-          round = round ∙ f .round;
-          rounds = λ j l. rw rounds (f .rounds j l);
-          counters = λ j l. rw counters (f .counters j l);
-          holds = λ j l.
-              rw (queues j, map-append (entryOf p j) (s .line j .store) (got i ok x j), ← got-entries j (eqb i j) refl ok)
-              (landed-holds was (f .sound) i kind b a lands j (omega arith) (map (entryOf p j) (s .line j .store)) (f .holds j l));
-          fit = λ j l. rw (queues j) (fit-append p (s .line j .store) (got i ok x j) (f .fit j l) (got-fit (eqb i j && ok)));
-        })
+  abbrev bytes : List ℕ
+  bytes = asEntry parcel .bytes
 
-    abbrev next : World
-    next = record {
-      sender = w .sender;
-      receiver = a .arrived .next;
-      store = a .store;
-      road = withRoad i (map (parcelOf p i) rest) (w .road);
-    }
+  abbrev ok : Bool
+  ok = eqb (a .arrived .number) 0
 
-    comes : Meets p next (run (theirs p) s (landStep (a .arrived .number) i))
-    comes = go ok refl
-      where
-        none : (t : Bool) → cond (t && false) (x ∷ []) [] ≡ []
-        none true = refl
-        none false = refl
+  lands : Lands (w .receiver) i kind bytes (w .store) a
+  lands = land-lands (w .receiver) (w .store) i parcel
 
-        go : (t : Bool) → ok ≡ t → Meets p next (run (theirs p) s (cond t (T.arrive i ∷ []) (T.lose i ∷ [])))
-        go true q =
-            let place = fun-ext (at-field (λ l. l .position) i arrived (s .line) arrived-position) in
-            let queues =
-            at-all (λ j l. l .store ≡ s .line j .store ++ got i ok x j) i arrived (s .line)
-            (rw (eq-eqb i i refl, q) (ap (λ (road : List Item). arriveOf road (s .line i) .store) e))
-            (λ j apart. rw (ne-eqb i j apart, append-nil) refl) in
-            meets p _ _ (far _ _ place queues)
-            (left-road p w s m i arrived x rest e (ap (λ (road : List Item). arriveOf road (s .line i) .road) e))
-        go false q =
-            let place = fun-ext (at-field (λ l. l .position) i dropped (s .line) dropped-position) in
-            let queues = at-field (λ l. l .store) i dropped (s .line) dropped-store in
-            meets p _ _ (far _ _ place (λ j. rw (q, none (eqb i j), append-nil) (queues j))) (lose-line p w s m i x rest e)
+  got-entries : (j : ℕ) (t : Bool) → eqb i j ≡ t → (u : Bool)
+      → cond (t && u) (asEntry parcel ∷ []) [] ≡ map (entryOf p j) (cond (t && u) (x ∷ []) [])
+  got-entries j true q true = ap (λ (k : ℕ). entryOf p k x ∷ []) (eqb-true i j q)
+  got-entries j true q false = refl
+  got-entries j false q u = refl
+
+  got-fit : (t : Bool) → AllFit p (cond t (x ∷ []) [])
+  got-fit true = let all : AllFit p (x ∷ rest) = rw e at (m .on-road i) in (all .0, tt)
+  got-fit false = tt
+
+  -- the far end, by what its queues hold now
+  far : (v : ℕ → ℕ) (items : ℕ → List Item) → v ≡ positions s → ((j : ℕ) → items j ≡ s .line j .store ++ got i ok x j)
+      → Shows p (left a) v items
+  far v items place queues =
+      let f = m .far in
+      let lines : p .lines ≡ w .receiver .plan .lines = ap (λ (p : Plan). p .lines) (sym (f .plan)) in
+      let turns = landed-turns was (f .sound) i kind bytes a lands in
+      rw place (record {
+        plan = landed-plan was (f .sound) i kind bytes a lands ∙ f .plan;
+        sound = landed-sound was (f .sound) i kind bytes a lands (land-valid (w .receiver) (w .store) i parcel (f .sound .good));
+        round = ap (λ (t : Turns). t .round) turns ∙ f .round;
+        turns = λ j l. ap (λ (t : Turns). turnOf t j) turns ∙ f .turns j l;
+        holds = λ j l.
+            rw (queues j, map-append (entryOf p j) (s .line j .store) (got i ok x j), ← got-entries j (eqb i j) refl ok)
+            (landed-holds was (f .sound) i kind bytes a lands j (omega arith) (map (entryOf p j) (s .line j .store)) (f .holds j l));
+        fit = λ j l. rw (queues j) (fit-append p (s .line j .store) (got i ok x j) (f .fit j l) (got-fit (eqb i j && ok)));
+      })
+
+  abbrev next : Event → World
+  next e = record { sender = w .sender; receiver = a .arrived .next; store = a .store; road = roadsAfter e (w .road) }
+
+  comes : Meets p (next (landSeen i parcel (a .arrived .number))) (run (theirs p) s (stepsOf (landSeen i parcel (a .arrived .number))))
+  comes = go ok refl
+    where
+      seen-as : Bool → Event
+      seen-as t = cond t (stored i parcel) (turned-away i parcel (a .arrived .number))
+
+      none : (t : Bool) → cond (t && false) (x ∷ []) [] ≡ []
+      none true = refl
+      none false = refl
+
+      go : (t : Bool) → ok ≡ t → Meets p (next (seen-as t)) (run (theirs p) s (stepsOf (seen-as t)))
+      go true q =
+          let place = fun-ext (at-field (λ l. l .position) i arrived (s .line) arrived-position) in
+          let queues =
+          at-all (λ j l. l .store ≡ s .line j .store ++ got i ok x j) i arrived (s .line)
+          (rw (eq-eqb i i refl, q) (ap (λ (road : List Item). arriveOf road (s .line i) .store) e))
+          (λ j apart. rw (ne-eqb i j apart, append-nil) refl) in
+          meets p _ _ (far _ _ place queues)
+          (left-road p w s m i arrived x rest e (ap (λ (road : List Item). arriveOf road (s .line i) .road) e))
+      go false q =
+          let place = fun-ext (at-field (λ l. l .position) i dropped (s .line) dropped-position) in
+          let queues = at-field (λ l. l .store) i dropped (s .line) dropped-store in
+          meets p _ _ (far _ _ place (λ j. rw (q, none (eqb i j), append-nil) (queues j))) (lose-line p w s m i x rest e)
 
 -- what passes every check is stored where there is room
-room-stored : (r : Receiver) (i kind : ℕ) (b store : List ℕ) → itemHead + length b ≤ r .size - at (r .used) i
-    → arrival (room r i b) r i kind b store .arrived .number ≡ 0
+room-stored : (r : Receiver) (i kind : ℕ) (b store : List ℕ) → itemHead + length b ≤ r .rings .size - placeOf r i .used
+    → arrival (roomNumber r i b) r i kind b store .arrived .number ≡ 0
 unfolding arrival
-room-stored r i kind b store has = simp (le-leb (itemHead + length b) (r .size - at (r .used) i) has)
+room-stored r i kind b store has = simp (le-leb (itemHead + length b) (r .rings .size - placeOf r i .used) has)
 
 module _ (p : Plan) (w : World) (s : State) (m : Meets p w s) where
-  pub arrive-meets : (i : ℕ) → Meets p (call w (arrives i)) (run (theirs p) s (logged w (arrives i)))
+  pub arrive-meets : (i : ℕ) → Meets p (call w (arrives i)) (run (theirs p) s (stepsOf (seen w (arrives i))))
   arrive-meets i = subst After (sym (m .roads i)) (go (s .line i .road) refl)
     where
       After : List Parcel → Type 0
-      After road = Meets p (landed w i road) (run (theirs p) s (arriveStep w i road))
-
-      valid : receiverOk (w .receiver) ≡ true
-      valid = m .far .sound .good
+      After road =
+          Meets p
+          (record { sender = w .sender; receiver = landed w i road .receiver; store = landed w i road .store; road = roadsAfter (arriveSeen w i road) (w .road) })
+          (run (theirs p) s (stepsOf (arriveSeen w i road)))
 
       go : (road : List Item) → s .line i .road ≡ road → After (map (parcelOf p i) road)
       go [] e = m
-      go (T.packet k b ∷ rest) e =
-          comes p w s m i 0 b _ (data-lands (w .receiver) i b (w .store)) (data-valid (w .receiver) i b (w .store) valid) (T.packet k b) refl rest e
-      go (T.marker k n ∷ rest) e =
-          let b = markOf p i n in
-          comes p w s m i 1 b _ (marker-lands (w .receiver) i b (w .store)) (marker-valid (w .receiver) i b (w .store) valid) (T.marker k n) refl rest e
+      go (x ∷ rest) e = comes p w s m i x rest e
 
   -- a parcel that is under way is stored where its ring has room
   pub land-stored : planOk p ≡ true → (i : ℕ) (x : Parcel) (rest : List Parcel) → w .road i ≡ x ∷ rest
-      → itemHead + length (bytesOf x) ≤ w .receiver .size - at (w .receiver .used) i → landing (w .receiver) (w .store) i x .arrived .number ≡ 0
+      → itemHead + length (bytesOf x) ≤ w .receiver .rings .size - placeOf (w .receiver) i .used → landing (w .receiver) (w .store) i x .arrived .number ≡ 0
   land-stored good i x rest e free = go (s .line i .road) refl (sym (m .roads i) ∙ e)
     where
       r : Receiver
@@ -157,7 +163,7 @@ module _ (p : Plan) (w : World) (s : State) (m : Meets p w s) where
       whole = eq-eqb _ _ (m .far .sound .fits)
 
       Stored : Parcel → Type 0
-      Stored x = itemHead + length (bytesOf x) ≤ r .size - at (r .used) i → landing r (w .store) i x .arrived .number ≡ 0
+      Stored x = itemHead + length (bytesOf x) ≤ r .rings .size - placeOf r i .used → landing r (w .store) i x .arrived .number ≡ 0
 
       on : (y : Item) → Fits p y → i < p .lines → Stored (parcelOf p i y)
       on (T.packet k b) fits line has =

@@ -1,220 +1,223 @@
--- The booth's end of a history: its sender is the sender's own, after the history's sends and markers. Assumes nothing.
-use Prim.Native.Nat.{ℕ, _≤_, _<_}
-use native.Mathlib.Decide.{decLt}
+-- Demand 2 of the booth's end, of every history of calls. Assumes nothing.
+use Prim.Native.Nat.{ℕ, zero, suc, _+_, _*_, _≤_, _<_}
+use native.Mathlib.Nat.{zero-add, add-zero, add-suc, suc-add}
+use native.Mathlib.Numerals.{add-one}
 use native.Mathlib.Omega.{arith}
-use mathlib.Core.Bool.{Bool, true, false, cond}
-use mathlib.Core.List.{List, [], _∷_, _++_, map}
-use mathlib.Core.Path.{_≡_, refl, sym, ap, _∙_, subst, fun-ext}
-use lib.ListN.{length, take, getD, length-map, List·getD-map}
-use lib.Seq.{sets}
-use Rattle.numbers.specs.declared.Written.the-variants as written
-use Rattle.numbers.specs.Writing.{Outcome}
-use Rattle.numbers.proofs.Checks.{in-range, from-range}
-use Rattle.numbers.proofs.Laws.{written-fits}
+use mathlib.Core.Bool.{Bool, true, false}
+use mathlib.Core.List.{List, [], _∷_, _++_}
+use mathlib.Core.Path.{_≡_, refl, sym, ap, _∙_, subst}
+use lib.ListN.{length, getD, length-append, List·getD-append}
+use lib.Seq.{getD-append-seam}
+use Rattle.numbers.specs.Writing.{written}
 use Rattle.plan.specs.declared.Plan.{Plan}
-use Rattle.plan.specs.Plan.{planOk, trimmed}
-use Rattle.plan.proofs.Laws.{trimmed-ok, trimmed-quantum}
-use Rattle.theory.specs.Sending.{choose, dueAfter}
+use Rattle.plan.specs.Limits.{mostLines}
+use Rattle.plan.specs.Plan.{at, quantum, linePlan, chargeOf, planOk, trimmed}
+use Rattle.plan.proofs.Laws.{trimmed-ok}
+use Rattle.marker.specs.Marker.{markerOf, markerBytes}
 use Rattle.theory.specs.Sending as S
-use Rattle.theory.specs.Demands.{Lowest}
-use Rattle.theory.specs.System as T
-use Rattle.theory.proofs.Histories.{packets-append}
-use Rattle.sender.specs.declared.Sender.{Sender}
-use Rattle.sender.specs.declared.SenderOpened.{SenderOpened}
-use Rattle.sender.specs.declared.Sent.the-variants as sent
-use Rattle.sender.specs.declared.SendResult.{SendResult}
-use Rattle.sender.specs.Sender.{sendOf, markerOn, markerFrom}
-use Rattle.sender.specs.Sender as sender
-use Rattle.sender.specs.History.{Keeps, isPacket}
-use Rattle.sender.specs.History as H
-use Rattle.sender.proofs.Laws.{is-opened, as-asked, line-not-asked}
-use Rattle.sender.proofs.Histories.{packets-fit}
-use Rattle.sender.proofs.Promises.{every-history}
-use Rattle.bundle.specs.Worlds.{World, Call, sends, asks, arrives, loses, takes, call, calls, sending, sentIn}
-use Rattle.bundle.specs.Log.{logged, log, markOf}
-use Rattle.bundle.specs.Words.{Opens}
-use Rattle.bundle.specs.Demands.{Rule, Share, theirs, after, opened, sentOf, carried, endedBy, andThen}
-use Rattle.bundle.proofs.Calls.{step-packets, landed-sender, after-plan, On, send-on, sent-now}
-use Rattle.bundle.proofs.Calls.{went-not-refused, went-there, written-not-refused, written-front}
+use Rattle.theory.specs.FirstForm.{Figures, firstDue, firstAfter}
+use Rattle.theory.specs.System.{nth, sizes}
+use Rattle.theory.specs.Demands.{Fit, Lowest, Shows, Promises}
+use Rattle.theory.proofs.Proved.{promises}
+use Rattle.theory.proofs.Carried.{carried-by-packets}
+use Rattle.sending.specs.declared.Sender.{Sender}
+use Rattle.sending.specs.declared.Sent.the-variants.{Went}
+use Rattle.sending.specs.declared.SendResult.{SendResult}
+use Rattle.sending.specs.Sender.{openedSender, openSender, notSent, sendOf, markerFrom}
+use Rattle.sending.specs.InTheory.{isPacket, inTheory, figuresOf}
+use Rattle.sending.proofs.Laws.{as-asked}
+use Rattle.sending.proofs.Steps.{packet-goes, other-refused}
+use Rattle.sending.proofs.InTheory.{sound, packet-fits, On, Agrees, send-on, one-send, opens, opened-on, opened-shows}
+use Rattle.bundle.specs.Events.{sentBy}
+use Rattle.bundle.specs.Log.{markOf}
+use Rattle.bundle.specs.Worlds.{World, Call, sends, asks, arrives, loses, takes, sendSeen, seen, boothAfter, call, calls, sentIn}
+use Rattle.bundle.specs.Booth.{carriedBy, endedBy, andPacket, Keeps, EveryHistory}
+use Rattle.bundle.proofs.Histories.{ask-sends, arrive-sends, lose-sends, take-sends}
 
--- the sender's calls among a history's
-abbrev pub boothCall : Call → List H.Call
-boothCall (sends x) = H.send (length x) ∷ []
-boothCall (asks i out) = H.ask i out ∷ []
-boothCall (arrives i) = []
-boothCall (loses i) = []
-boothCall (takes out) = []
+-- a sender on a plan sends a packet in range, and nothing else
+pub sent-now : (p : Plan) (w : World) → On p (w .sender) → (x : List ℕ) → isPacket p (length x) ≡ true → sentBy (seen w (sends x)) ≡ x ∷ []
+sent-now p w on x e =
+    ap (λ (r : SendResult). sentBy (sendSeen x (r .answer))) (packet-goes (w .sender) (on .good) (length x) (rw (on .plan) e))
 
-abbrev pub boothCalls : List Call → List H.Call
-boothCalls [] = []
-boothCalls (e ∷ h) = boothCall e ++ boothCalls h
+sent-none : (p : Plan) (w : World) → On p (w .sender) → (x : List ℕ) → isPacket p (length x) ≡ false → sentBy (seen w (sends x)) ≡ []
+sent-none p w on x e =
+    ap (λ (r : SendResult). sentBy (sendSeen x (r .answer))) (other-refused (w .sender) (on .good) (length x) (rw (on .plan) e))
 
--- the packets of the log are those sent
-pub log-packets : (h : List Call) (w : World) → T.packets (log w h) ≡ sentIn w h
-log-packets [] w = refl
-log-packets (e ∷ h) w =
-    packets-append (logged w e) (log (call w e) h) ∙ ap (λ (ps : List (List ℕ)). ps ++ T.packets (log (call w e) h)) (step-packets w e)
-    ∙ ap (λ (ps : List (List ℕ)). sending w e ++ ps) (log-packets h (call w e))
+-- ---- the packets sent are in range
 
-pub sender-after : (h : List Call) (w : World) → calls w h .sender ≡ H.after (w .sender) (boothCalls h)
-unfolding H.after
-sender-after [] w = refl
-sender-after (sends x ∷ h) w = sender-after h (call w (sends x))
-sender-after (asks i out ∷ h) w = sender-after h (call w (asks i out))
-sender-after (arrives i ∷ h) w =
-    sender-after h (call w (arrives i)) ∙ ap (λ (s : Sender). H.after s (boothCalls h)) (landed-sender w i (w .road i))
-sender-after (loses i ∷ h) w = sender-after h (call w (loses i))
-sender-after (takes out ∷ h) w = sender-after h (call w (takes out))
+abbrev InRange : Plan → List (List ℕ) → Type 0
+InRange p packets = (n : ℕ) → n < length packets → isPacket p (length (nth packets n)) ≡ true
 
-booth-append : (h g : List Call) → boothCalls (h ++ g) ≡ boothCalls h ++ boothCalls g
-booth-append [] g = refl
-booth-append (sends x ∷ h) g = ap (λ (l : List H.Call). H.send (length x) ∷ l) (booth-append h g)
-booth-append (asks i out ∷ h) g = ap (λ (l : List H.Call). H.ask i out ∷ l) (booth-append h g)
-booth-append (arrives i ∷ h) g = booth-append h g
-booth-append (loses i ∷ h) g = booth-append h g
-booth-append (takes out ∷ h) g = booth-append h g
+-- ---- from a sender that is where the first form is after n packets, the calls go on to where it is after theirs too
 
--- from a valid state on the plan q, the packets among the calls are those sent
-packets-sent : (q : Plan) (h : List Call) (w : World) → On q (w .sender) → H.packets q (boothCalls h) ≡ map length (sentIn w h)
-unfolding H.packets
-packets-sent q [] w on = refl
-packets-sent q (asks i out ∷ h) w on = packets-sent q h (call w (asks i out)) on
-packets-sent q (arrives i ∷ h) w on = packets-sent q h (call w (arrives i)) (rw (landed-sender w i (w .road i)) on)
-packets-sent q (loses i ∷ h) w on = packets-sent q h (call w (loses i)) on
-packets-sent q (takes out ∷ h) w on = packets-sent q h (call w (takes out)) on
-packets-sent q (sends x ∷ h) w on =
-    go (isPacket q (length x)) (packets-sent q h (call w (sends x)) (send-on q (w .sender) (length x) on))
-    ∙ ap (λ (now : List (List ℕ)). map length (now ++ sentIn (call w (sends x)) h)) (sym (sent-now q (w .sender) on x))
-  where
-    go : (t : Bool) → H.packets q (boothCalls h) ≡ map length (sentIn (call w (sends x)) h)
-        → cond t (length x ∷ H.packets q (boothCalls h)) (H.packets q (boothCalls h))
-        ≡ map length (cond t (x ∷ []) [] ++ sentIn (call w (sends x)) h)
-    go true ih = ap (λ (l : List ℕ). length x ∷ l) ih
-    go false ih = ih
+module _ (p : Plan) (start : Figures) where
+  pub record Ends (w : World) (h : List Call) (packets : List (List ℕ)) : Type 0 where
+    pub in-range : InRange p packets
+    pub agrees : (all : ℕ → ℕ) (n : ℕ) → Agrees p start (w .sender) all n → ((m : ℕ) → m < length packets → all (n + m) ≡ sizes packets m)
+        → Agrees p start (calls w h .sender) all (n + length packets)
 
-module _ (p : Plan) (size : ℕ) (store : List ℕ) (o : Opens p size store) where
+  -- a call that sends nothing and leaves the sender
+  idle : (w : World) (e : Call) (h : List Call) → boothAfter w e ≡ w .sender → sentBy (seen w e) ≡ []
+      → Ends (call w e) h (sentIn (call w e) h) → Ends w (e ∷ h) (sentIn w (e ∷ h))
+  idle w e h stays none rest =
+      let same : sentIn w (e ∷ h) ≡ sentIn (call w e) h = ap (λ (l : List (List ℕ)). l ++ sentIn (call w e) h) none in
+      rw same (record {
+        in-range = rest .in-range;
+        agrees = λ all n a is. rest .agrees all n (subst (λ (s : Sender). Agrees p start s all n) (sym stays) a) is;
+      })
+
+  -- a packet that is sent
+  goes : (w : World) (x : List ℕ) (h : List Call) → On p (w .sender) → isPacket p (length x) ≡ true
+      → Ends (call w (sends x)) h (sentIn (call w (sends x)) h) → Ends w (sends x ∷ h) (sentIn w (sends x ∷ h))
+  goes w x h on e rest =
+      let packets : List (List ℕ) = sentIn (call w (sends x)) h in
+      let same : sentIn w (sends x ∷ h) ≡ x ∷ packets = ap (λ (l : List (List ℕ)). l ++ packets) (sent-now p w on x e) in
+      rw same (record {
+        in-range = ranged packets (rest .in-range);
+        agrees = λ all n a is.
+            let first : all n ≡ length x = rw add-zero at (is 0 (omega arith)) in
+            rw add-suc
+            (rw suc-add at (rest .agrees all (suc n) (one-send p start (w .sender) all n (length x) e first a)
+            (λ m l. rw (suc-add, ← add-suc) (is (suc m) (omega arith)))));
+      })
+    where
+      ranged : (packets : List (List ℕ)) → InRange p packets → InRange p (x ∷ packets)
+      ranged packets r zero l = e
+      ranged packets r (suc n) l = r n (omega arith)
+
+  run : (h : List Call) (w : World) → On p (w .sender) → Ends w h (sentIn w h)
+  run [] w on = record { in-range = λ n l. absurd (omega arith); agrees = λ all n a is. rw add-zero a }
+  run (sends x ∷ h) w on = go (isPacket p (length x)) refl (run h (call w (sends x)))
+    where
+      go : (t : Bool) → isPacket p (length x) ≡ t → (On p (call w (sends x) .sender) → Ends (call w (sends x)) h (sentIn (call w (sends x)) h))
+          → Ends w (sends x ∷ h) (sentIn w (sends x ∷ h))
+      go true e rest = goes w x h on e (rest (send-on p (w .sender) (length x) on e))
+      go false e rest =
+          let stays : sendOf (w .sender) (length x) .next ≡ w .sender =
+          ap (λ (r : SendResult). r .next) (other-refused (w .sender) (on .good) (length x) (rw (on .plan) e)) in
+          idle w (sends x) h stays (sent-none p w on x e) (rest (subst (On p) (sym stays) on))
+  run (asks i out ∷ h) w on = idle w (asks i out) h refl (ask-sends w i out) (run h (call w (asks i out)) on)
+  run (arrives i ∷ h) w on = idle w (arrives i) h refl (arrive-sends w i) (run h (call w (arrives i)) on)
+  run (loses i ∷ h) w on = idle w (loses i) h refl (lose-sends w i) (run h (call w (loses i)) on)
+  run (takes out ∷ h) w on = idle w (takes out) h refl (take-sends w out) (run h (call w (takes out)) on)
+
+-- ---- from the opening
+
+module _ (p : Plan) (good : planOk p ≡ true) (sixteen : length (p .quanta) ≡ mostLines) (w : World) (is-open : w .sender ≡ openSender p .sender) where
   abbrev kept : Plan
   kept = trimmed p
 
-  abbrev plan : S.Plan
-  plan = theirs p size store
+  abbrev theirs : S.Plan
+  theirs = inTheory kept
 
-  abbrev now : List Call → Sender
-  now h = after p size store h .sender
+  kept-ok : planOk kept ≡ true
+  kept-ok = trimmed-ok p good sixteen
 
-  abbrev packets : List Call → List (List ℕ)
-  packets h = sentOf p size store h
+  promised : Promises theirs
+  promised = promises theirs (sound kept kept-ok)
 
-  abbrev andSends : List Call → List ℕ → List Call
-  andSends h x = andThen p size store h (sends x)
+  begins : w .sender ≡ openedSender p
+  begins = is-open ∙ opens p good sixteen
 
-  pub plan-good : planOk p ≡ true
-  unfolding sender.openOf
-  plan-good = go (planOk p) refl (o .sender)
-    where
-      go : (t : Bool) → planOk p ≡ t
-          → cond {A = SenderOpened} t (record { number = 0; sender = sender.opened p }) (record { number = 1; sender = sender.closed }) .number ≡ 0
-          → planOk p ≡ true
-      go true e z = e
-      go false e z = absurd (omega arith)
+  first : On kept (w .sender)
+  first = subst (On kept) (sym begins) (opened-on p good sixteen)
 
-  pub kept-good : planOk (trimmed p) ≡ true
-  kept-good = trimmed-ok p plan-good (o .sixteen)
+  module _ (h : List Call) where
+    abbrev s : Sender
+    s = calls w h .sender
 
-  pub keeps : (h : List Call) → Keeps (trimmed p) (boothCalls h) (after p size store h .sender)
-  keeps h = rw (sender-after h (opened p size store)) (every-history p plan-good (o .sixteen) (boothCalls h))
+    abbrev packets : List (List ℕ)
+    packets = sentIn w h
 
-  on-plan : (h : List Call) → now h .plan ≡ kept
-  on-plan h =
-      ap (λ (s : Sender). s .plan) (sender-after h (opened p size store)) ∙ after-plan (opened p size store .sender) (boothCalls h)
-      ∙ ap (λ (s : SenderOpened). s .sender .plan) (sym (is-opened p plan-good))
+    abbrev n : ℕ
+    n = length packets
 
-  -- what the sender has sent is what the history's sends have
-  pub sent-lengths : (h : List Call) → H.packets (trimmed p) (boothCalls h) ≡ map length (sentOf p size store h)
-  sent-lengths h = packets-sent kept h (opened p size store) (keeps [] .valid, on-plan [])
+    ends : Ends kept (figuresOf (w .sender)) w h packets
+    ends = run kept (figuresOf (w .sender)) h w first
 
-  lengths-are : (h : List Call) → H.lengths kept (boothCalls h) ≡ T.sizes (packets h)
-  lengths-are h = fun-ext (λ n. ap (λ (l : List ℕ). getD l n 0) (sent-lengths h) ∙ List·getD-map length (packets h) n [])
+    -- the sender is where the first form is, for any sizes that begin with those of its packets
+    ran : (all : ℕ → ℕ) → ((m : ℕ) → m < n → all m ≡ sizes packets m) → Agrees kept (figuresOf (w .sender)) s all n
+    unfolding firstAfter
+    ran all same = rw zero-add at (ends .agrees all 0 (first, refl) (λ m l. rw zero-add (same m l)))
 
-  count-is : (h : List Call) → H.count kept (boothCalls h) ≡ length (packets h)
-  count-is h = ap length (sent-lengths h) ∙ length-map (packets h) length
+    pub on : On kept s
+    on = ran (sizes packets) (λ m l. refl) .0
 
-  -- so any figure of the sender's packets is that of the history's,
-  by-sent : {A : Type 0} (f : (ℕ → ℕ) → ℕ → A) (h : List Call)
-      → f (H.lengths kept (boothCalls h)) (H.count kept (boothCalls h)) ≡ f (T.sizes (packets h)) (length (packets h))
-  by-sent f h = ap (λ (l : ℕ → ℕ). f l (H.count kept (boothCalls h))) (lengths-are h) ∙ ap (f (T.sizes (packets h))) (count-is h)
+    opens-so : Shows theirs (figuresOf (w .sender)) (λ i. 0) 0
+    opens-so = subst (λ (s : Sender). Shows theirs (figuresOf s) (λ i. 0) 0) (sym begins) (opened-shows p good sixteen)
 
-  -- and after one send more
-  by-one-more : {A : Type 0} (f : (ℕ → ℕ) → ℕ → A) (h : List Call) (x : List ℕ)
-      → f (H.lengths kept (H.andSend (boothCalls h) (length x))) (H.count kept (H.andSend (boothCalls h) (length x)))
-      ≡ f (T.sizes (packets (andSends h x))) (length (packets (andSends h x)))
-  by-one-more f h x =
-      ap (λ (l : List H.Call). f (H.lengths kept l) (H.count kept l)) (sym (booth-append h (sends x ∷ []))) ∙ by-sent f (andSends h x)
+    fit : Fit theirs (sizes packets) n
+    fit m l i line = packet-fits kept kept-ok (sizes packets m) (ends .in-range m l) i line
 
-  pub carried-is : (h : List Call) → H.carriedBy (trimmed p) (boothCalls h) ≡ carried p size store h
-  carried-is h = by-sent (S.carried plan) h
+    shows : Shows theirs (figuresOf s) (carriedBy kept packets) (endedBy kept packets)
+    shows = rw (ran (sizes packets) (λ m l. refl) .1) (promised .forms-agree (figuresOf (w .sender)) opens-so (sizes packets) n fit)
 
-  -- packets sent are in range
-  pub sent-fit : (h : List Call) (n : ℕ) → n < length (sentOf p size store h)
-      → (1 ≤ length (T.nth (sentOf p size store h) n)) × (length (T.nth (sentOf p size store h) n) ≤ p .max)
-  sent-fit h n l =
-      let fits = packets-fit kept (boothCalls h) n (rw (count-is h) l) in
-      from-range 1 (T.sizes (packets h) n) (p .max) (subst (λ (sizes : ℕ → ℕ). isPacket kept (sizes n) ≡ true) (lengths-are h) fits)
+    -- one packet more
+    module _ (x : List ℕ) (packet : isPacket kept (length x) ≡ true) where
+      abbrev more : ℕ → ℕ
+      more = sizes (andPacket packets x)
 
-  pub rule : Rule p size store
-  rule h x least most =
-      let due =
-      ap (λ (sizes : ℕ → ℕ). dueAfter plan sizes (H.count kept (boothCalls h))) (by-one-more (λ (sizes : ℕ → ℕ) (n : ℕ). sizes) h x)
-      ∙ ap (dueAfter plan (T.sizes (packets (andSends h x)))) (count-is h) in (
-        now h .line,
-        subst (λ (v : ℕ → ℕ). Lowest plan v (now h .line)) (carried-is h) (keeps h .rule),
-        keeps h .goes (length x) (in-range 1 (length x) (p .max) least most) ∙ ap (sent.Went (now h .line)) due,
-      )
+      more-same : (m : ℕ) → m < n → more m ≡ sizes packets m
+      more-same m l = ap length (List·getD-append packets (x ∷ []) [] m l)
 
-  pub share : Share p size store
-  share h x least most ends i l =
-      let shares = keeps h .share (length x) (in-range 1 (length x) (p .max) least most) (rw (carried-is h) ends) i l in
-      let carries : H.carriedBy kept (H.andSend (boothCalls h) (length x)) ≡ carried p size store (andSends h x) = by-one-more (S.carried plan) h x in
-      let ended : H.endedBy kept (H.andSend (boothCalls h) (length x)) ≡ endedBy p size store (andSends h x) = by-one-more (S.ended plan) h x in
-      rw (← carries, ← ended, ← trimmed-quantum p plan-good (o .sixteen) i l) shares
+      more-last : more n ≡ length x
+      more-last = ap length (getD-append-seam packets x [] [])
 
-  sent-in-range : (h : List Call) (n i : ℕ) (due : Bool) → sendOf (now h) n .answer ≡ sent.Went i due → isPacket kept n ≡ true
-  sent-in-range h n i due e = go (isPacket kept n) refl
-    where
-      go : (t : Bool) → isPacket kept n ≡ t → isPacket kept n ≡ true
-      go true q = q
-      go false q = absurd (went-not-refused (ap (λ (r : SendResult). r .answer) (keeps h .refuses n q)) e)
+      one-more : length (andPacket packets x) ≡ suc n
+      one-more = length-append packets (x ∷ []) ∙ add-one n
 
-  -- a packet that is sent is in range, and goes to the choice by what the lines have carried
-  pub goes : (h : List Call) (x : List ℕ) (i : ℕ) (due : Bool) → sendOf (after p size store h .sender) (length x) .answer ≡ sent.Went i due
-      → (i ≡ choose (theirs p size store) (carried p size store h)) × (i < p .lines) × (1 ≤ length x) × (length x ≤ p .max)
-  goes h x i due e =
-      let packet = sent-in-range h (length x) i due e in
-      let fits = from-range 1 (length x) (p .max) packet in
-      let line : i ≡ now h .line = went-there e (keeps h .goes (length x) packet) in
-      (line ∙ keeps h .figures .line ∙ ap (choose plan) (carried-is h), rw line (keeps h .rule .is-line), fits .0, fits .1)
+      more-fit : Fit theirs more (suc n)
+      more-fit m l i line = packet-fits kept kept-ok (more m) (go (native.Mathlib.Decide.decLt m n)) i line
+        where
+          go : Dec (m < n) → isPacket kept (more m) ≡ true
+          go (yes d) = rw (more-same m d) (ends .in-range m d)
+          go (no d) = let last : m ≡ n = omega arith in rw (last, more-last) packet
 
-  asked-on-line : (h : List Call) (i : ℕ) (out : List ℕ) (n : ℕ) → markerFrom (now h) i out .answer ≡ written.Length n → i < p .lines
-  asked-on-line h i out n e = go (decLt i (p .lines))
-    where
-      go : Dec (i < p .lines) → i < p .lines
-      go (yes d) = d
-      go (no d) =
-          let off : now h .plan .lines ≤ i = rw (on-plan h) (omega arith) in
-          absurd (written-not-refused (sym (line-not-asked (now h) i out (keeps h .valid) off .0)) e)
+      due : firstDue theirs (figuresOf s) (length x) ≡ S.dueAfter theirs more n
+      due =
+          let end = firstAfter theirs (figuresOf (w .sender)) more n in
+          ap (λ (f : Figures). firstDue theirs f (length x)) (ran more more-same .1) ∙ ap (firstDue theirs end) (sym more-last)
+          ∙ promised .dues-agree (figuresOf (w .sender)) opens-so more n more-fit
 
-  -- a marker that is written is on a line, and shows what that line has carried
-  pub marks : (h : List Call) (i : ℕ) (out : List ℕ) (n : ℕ) → markerFrom (after p size store h .sender) i out .answer ≡ written.Length n
-      → (i < p .lines) × (take n (markerFrom (after p size store h .sender) i out .out) ≡ markOf (trimmed p) i (carried p size store h i))
-  marks h i out n e =
-      let line = asked-on-line h i out n e in
-      let shown = rw (carried-is h) at (keeps h .marks i line out) in
-      let front = written-front (markOf kept i (carried p size store h i)) out n (ap (λ (r : Outcome). r .answer) (sym shown) ∙ e) in
-      (line, ap (λ (r : Outcome). take n (r .out)) shown ∙ front)
+      answers : sendOf s (length x) .answer ≡ Went (s .line) (S.dueAfter theirs more n)
+      answers =
+          ap (λ (r : SendResult). r .answer) (packet-goes s (on .good) (length x) (rw (on .plan) packet))
+          ∙ ap (λ (q : Plan). Went (s .line) (firstDue (inTheory q) (figuresOf s) (length x))) (on .plan) ∙ ap (Went (s .line)) due
 
-  pub marker-written : (h : List Call) (i : ℕ) (out : List ℕ) → i < p .lines → length (markerOn (after p size store h .sender) i) ≤ length out
-      → markerFrom (after p size store h .sender) i out .answer ≡ written.Length (length (markerOn (after p size store h .sender) i))
-  marker-written h i out l room =
-      let bytes : List ℕ = markerOn (now h) i in
-      ap (λ (r : Outcome). r .answer) (sym (as-asked (now h) i out (keeps h .valid) (rw (on-plan h) l)))
-      ∙ sym (written-fits bytes out (length bytes) refl room (sets out 0 bytes) refl .0)
+      -- the packet's own length does not count before it is sent
+      before : S.carried theirs more n ≡ carriedBy kept packets
+      before = carried-by-packets theirs more (sizes packets) n more-same
+
+      shares : S.ends theirs (carriedBy kept packets) (length x) ≡ true → (i : ℕ) → i < kept .lines
+          → (endedBy kept (andPacket packets x) * quantum kept i ≤ carriedBy kept (andPacket packets x) i)
+          × (carriedBy kept (andPacket packets x) i < endedBy kept (andPacket packets x) * quantum kept i + chargeOf (linePlan kept i) (kept .max))
+      shares e i l = rw one-more (promised .share more n more-fit (rw (before, more-last) e) i l)
+
+    refuses : (size : ℕ) → isPacket kept size ≡ false → sendOf s size ≡ notSent s 4
+    refuses size e = other-refused s (on .good) size (rw (on .plan) e)
+
+    lowest : Lowest theirs (carriedBy kept packets) (s .line)
+    lowest = rw (shows .line) (promised .rule (sizes packets) n)
+
+    marks : (i : ℕ) → i < kept .lines → (out : List ℕ) → markerFrom s i out ≡ written (markOf kept i (carriedBy kept packets i)) out
+    marks i l out =
+        sym (as-asked s i out (on .good) (rw (on .plan) l))
+        ∙ ap (λ (r : ℕ). written (markerBytes (markerOf i r (at (s .counters) i))) out) (shows .round i l)
+        ∙ ap (λ (c : ℕ). written (markerBytes (markerOf i (S.roundAt (quantum kept i) (carriedBy kept packets i)) c)) out) (shows .counter i l)
+
+    pub sent-in-range : InRange (trimmed p) (sentIn w h)
+    sent-in-range = ends .in-range
+
+    pub keeps : Keeps (trimmed p) (sentIn w h) (calls w h .sender)
+    keeps = record {
+      valid = on .good;
+      figures = shows;
+      rule = lowest;
+      goes = answers;
+      refuses = refuses;
+      share = shares;
+      marks = marks;
+    }
+
+pub every-history : EveryHistory
+every-history p good sixteen w is-open h = keeps p good sixteen w is-open h

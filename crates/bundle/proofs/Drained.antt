@@ -17,25 +17,28 @@ use Rattle.theory.specs.FarEnd.{front}
 use Rattle.theory.specs.FarEnd as F
 use Rattle.theory.proofs.Histories.{near-split}
 use Rattle.ring.proofs.Promises.{read-back}
-use Rattle.receiver.specs.declared.Taken.the-variants.{Data, Refused}
-use Rattle.receiver.specs.Taking.{takeOf}
-use Rattle.bundle.specs.Worlds.{World, Call, takes, call, calls}
-use Rattle.bundle.specs.Log.{takeStep, logged, log, entryOf}
-use Rattle.bundle.specs.Words.{Opens, Roomy, queue, heldBelow, NoPacket}
-use Rattle.bundle.specs.Demands.{theirs, opened, after, logOf, seen, andThen, Near}
-use Rattle.bundle.proofs.Booth.{kept-good}
+use Rattle.receiving.specs.declared.Taken.{Taken}
+use Rattle.receiving.specs.declared.Taken.the-variants.{Data, Refused}
+use Rattle.receiving.specs.Taking.{takeOf}
+use Rattle.bundle.specs.Worlds.{World, Call, takes, takeSeen, seen, call, calls}
+use Rattle.bundle.specs.Log.{stepsOf, log, entryOf}
+use Rattle.bundle.specs.Words.{andThen, Opens, Roomy, queue, heldBelow, NoPacket}
+use Rattle.bundle.specs.Demands.{theirs, opened, after, logOf, system, Near}
+use Rattle.bundle.proofs.Histories.{log-append}
+use Rattle.bundle.proofs.Senders.{kept-good}
 use Rattle.bundle.proofs.Takes.{says, take-says}
-use Rattle.bundle.proofs.Runs.{log-append, after-and, near-and, some, within, not-behind, reaches}
+use Rattle.bundle.proofs.Runs.{after-and, near-and, some, within, not-behind, reaches}
 
 -- a take that has room is a step
-step-says : (out : List ℕ) (i : ℕ) (items : List Item) (x : ℕ) → (says out i items x ≡ Refused 8 → ⊥) → takeStep (says out i items x) ≡ take ∷ []
-step-says out i [] x room = refl
-step-says out i (packet k b ∷ rest) x room = go (leb (length b) (length out)) room
+step-says : (end out : List ℕ) (i : ℕ) (items : List Item) (x : ℕ) → (says out i items x ≡ Refused 8 → ⊥)
+    → stepsOf (takeSeen end (says out i items x)) ≡ take ∷ []
+step-says end out i [] x room = refl
+step-says end out i (packet k b ∷ rest) x room = go (leb (length b) (length out)) room
   where
-    go : (t : Bool) → (cond t (Data i (length b)) (Refused 8) ≡ Refused 8 → ⊥) → takeStep (cond t (Data i (length b)) (Refused 8)) ≡ take ∷ []
+    go : (t : Bool) → (cond t (Data i (length b)) (Refused 8) ≡ Refused 8 → ⊥) → stepsOf (takeSeen end (cond t (Data i (length b)) (Refused 8))) ≡ take ∷ []
     go true room = refl
     go false room = absurd (room refl)
-step-says out i (marker k m ∷ rest) x room = refl
+step-says end out i (marker k m ∷ rest) x room = refl
 
 -- a queue without packets, as the ring holds it
 pub none-queued : (p : Plan) (i : ℕ) (items : List Item) → W.NoPacket items → NoPacket (map (entryOf p i) items)
@@ -51,10 +54,10 @@ module _ (p : Plan) (size : ℕ) (store : List ℕ) (o : Opens p size store) whe
   world h = after p size store h
 
   abbrev state : List Call → State
-  state h = seen p size store h
+  state h = system p size store h
 
   -- what the next take answers
-  pub answers : (h : List Call) (out : List ℕ) → Near p size store (andThen p size store h (takes out))
+  pub answers : (h : List Call) (out : List ℕ) → Near p size store (andThen h (takes out))
       → takeOf (world h .receiver) (world h .store) out .result .answer
       ≡ says out (current plan (state h)) (front plan (state h) .store) (front plan (state h) .position)
   answers h out near =
@@ -63,22 +66,23 @@ module _ (p : Plan) (size : ℕ) (store : List ℕ) (o : Opens p size store) whe
       (within p size store o h (n .0)) (not-behind p size store o h) out (n .1)
 
   -- the first call of some that are near
-  near-first : (h : List Call) (e : Call) (g : List Call) → Near p size store (h ++ (e ∷ g)) → Near p size store (andThen p size store h e)
+  near-first : (h : List Call) (e : Call) (g : List Call) → Near p size store (h ++ (e ∷ g)) → Near p size store (andThen h e)
   near-first h e g near =
-      let same : andThen p size store h e ++ g ≡ h ++ (e ∷ g) = append-assoc h (e ∷ []) g in
-      near-split plan (logOf p size store (andThen p size store h e)) (log (world (andThen p size store h e)) g) T.opened
-      (subst (F.Near plan T.opened) (log-append (andThen p size store h e) g (opened p size store)) (rw same near)) .0
+      let same : andThen h e ++ g ≡ h ++ (e ∷ g) = append-assoc h (e ∷ []) g in
+      near-split plan (logOf p size store (andThen h e)) (log (world (andThen h e)) g) T.opened
+      (subst (F.Near plan T.opened) (log-append (andThen h e) g (opened p size store)) (rw same near)) .0
 
   takes-log : (outs : List (List ℕ)) (h : List Call) → Near p size store (h ++ map takes outs) → Roomy (world h) outs
       → log (world h) (map takes outs) ≡ W.takes (length outs)
   takes-log [] h near room = refl
   takes-log (out ∷ outs) h near room =
       let e = answers h out (near-first h (takes out) (map takes outs) near) in
-      let first : logged (world h) (takes out) ≡ take ∷ [] =
-      ap takeStep e ∙ step-says out (current plan (state h)) (front plan (state h) .store) (front plan (state h) .position) (λ q. room .0 (e ∙ q)) in
-      let on : calls (opened p size store) (andThen p size store h (takes out)) ≡ call (world h) (takes out) = after-and p size store o h (takes out) in
-      let near' : Near p size store (andThen p size store h (takes out) ++ map takes outs) = rw (append-assoc h (takes out ∷ []) (map takes outs)) near in
-      let rest = takes-log outs (andThen p size store h (takes out)) near' (subst (λ (w : World). Roomy w outs) (sym on) (room .1)) in
+      let end : List ℕ = takeOf (world h .receiver) (world h .store) out .out in
+      let first : stepsOf (seen (world h) (takes out)) ≡ take ∷ [] =
+      ap (λ (t : Taken). stepsOf (takeSeen end t)) e ∙ step-says end out (current plan (state h)) (front plan (state h) .store) (front plan (state h) .position) (λ q. room .0 (e ∙ q)) in
+      let on : calls (opened p size store) (andThen h (takes out)) ≡ call (world h) (takes out) = after-and p size store o h (takes out) in
+      let near' : Near p size store (andThen h (takes out) ++ map takes outs) = rw (append-assoc h (takes out ∷ []) (map takes outs)) near in
+      let rest = takes-log outs (andThen h (takes out)) near' (subst (λ (w : World). Roomy w outs) (sym on) (room .1)) in
       ap (λ (l : List Step). l ++ log (call (world h) (takes out)) (map takes outs)) first
       ∙ ap (λ (l : List Step). take ∷ l) (subst (λ (w : World). log w (map takes outs) ≡ W.takes (length outs)) on rest)
 

@@ -4,6 +4,7 @@ use mathlib.Core.Path.{_≡_, ap, sym, _∙_}
 use native.Mathlib.Nat.{add-mul, div-add-mod', mod-lt}
 use native.Mathlib.Decide.{ℕ-discrete}
 use native.Mathlib.Omega.{arith}
+use Rattle.numbers.specs.Wrap.{wrap, half}
 use Rattle.plan.specs.Plan.{counterAfter, roundAfter}
 use Rattle.marker.specs.Marker.{markerOf}
 use Rattle.theory.specs.Sending.{roundAt, counterAt}
@@ -16,7 +17,7 @@ use Rattle.report.proofs.Laws.{same-round, later-round}
 pub counter-range : (q x : ℕ) → 1 ≤ q → (1 ≤ counterAt q x) × (counterAt q x ≤ q)
 counter-range q x some = (omega (arith, mod-lt x some), omega arith)
 
-pub round-small : (q x : ℕ) → roundAt q x < 4294967296
+pub round-small : (q x : ℕ) → roundAt q x < wrap
 round-small q x = omega arith
 
 -- a packet charged y
@@ -27,12 +28,12 @@ pub counter-next : (q x y : ℕ) → 1 ≤ q → y ≤ q → counterAfter q (cou
 counter-next = counter-after
 
 -- stored rounds of rounds less than 2^32 apart
-pub ahead-rounds : (a b : ℕ) → b ≤ a → a < b + 4294967296 → ahead (a % 4294967296) (b % 4294967296) ≡ a - b
+pub ahead-rounds : (a b : ℕ) → b ≤ a → a < b + wrap → ahead (a % wrap) (b % wrap) ≡ a - b
 unfolding ahead
 ahead-rounds a b le far = omega arith
 
 -- a marker of position m on a line at x
-module _ (q x m i : ℕ) (some : 1 ≤ q) (le : x ≤ m) (near : m / q < x / q + 2147483648) where
+module _ (q x m i : ℕ) (some : 1 ≤ q) (le : x ≤ m) (near : m / q < x / q + half) where
   -- so many rounds lie between
   abbrev between : ℕ
   between = m / q - x / q
@@ -54,7 +55,7 @@ module _ (q x m i : ℕ) (some : 1 ≤ q) (le : x ≤ m) (near : m / q < x / q +
   pub report-at : reportOf q (roundAt q x) (counterAt q x) (markerOf i (roundAt q m) (counterAt q m)) ≡ Missing (m - x)
   report-at = told (ℕ-discrete between 0)
     where
-      close : ahead (roundAt q m) (roundAt q x) < 2147483648
+      close : ahead (roundAt q m) (roundAt q x) < half
       close = rw between-is (omega arith)
 
       sum : missing q (roundAt q x) (counterAt q x) (markerOf i (roundAt q m) (counterAt q m)) ≡ m - x

@@ -1,17 +1,19 @@
-pub mod Meeting
+pub mod Histories
+pub mod Booth
+pub mod Senders
 pub mod Figures
 pub mod Marks
 pub mod Currents
-mod Calls
-pub mod Booth
+pub mod Meeting
+pub mod Opening
 pub mod Roads
 pub mod Arrivals
 pub mod Moves
 pub mod Takes
-pub mod Opening
 pub mod Runs
-pub mod Refusals
+pub mod Queues
 pub mod Drained
+pub mod Refusals
 pub mod Running
-pub mod Examples
 pub mod Proved
+pub mod Examples

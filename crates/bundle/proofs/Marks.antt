@@ -9,10 +9,10 @@ use Rattle.plan.specs.Plan.{quantum, planOk}
 use Rattle.plan.proofs.Laws.{in-range}
 use Rattle.marker.specs.declared.Marker.{Marker}
 use Rattle.marker.specs.declared.MarkerRead.the-variants.{Whole}
-use Rattle.marker.specs.Marker.{markerOf}
+use Rattle.marker.specs.Marker.{markerOf, judged}
 use Rattle.marker.proofs.Laws.{record-written}
 use Rattle.theory.specs.Sending.{roundAt, counterAt}
-use Rattle.report.specs.Report.{thenChecked, markerOn}
+use Rattle.report.specs.Report.{onNumber, markerOn}
 use Rattle.report.proofs.Laws.{both-good}
 use Rattle.bundle.specs.Log.{markOf}
 use Rattle.bundle.proofs.Figures.{counter-range, round-small}
@@ -35,5 +35,5 @@ module _ (p : Plan) (good : planOk p ≡ true) (i : ℕ) (line : i < p .lines) w
       let c = counter-range q m some-quantum in
       let small : i < 2 ^ 32 = omega (arith, range .few-lines) in
       let most : counterAt q m < 2 ^ 32 = omega (arith, c .1, range .quantum-most i line) in
-      ap (thenChecked i q) (record-written (mark m) small (round-small q m) most)
+      ap (judged (onNumber i q)) (record-written (mark m) small (round-small q m) most)
       ∙ sym (both-good i q (mark m) (checks.in-range 1 (counterAt q m) q (c .0) (c .1)) refl)

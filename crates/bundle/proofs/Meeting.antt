@@ -5,16 +5,21 @@ use mathlib.Core.List.{List, [], _∷_, map}
 use mathlib.Core.Path.{_≡_}
 use lib.ListN.{length}
 use Rattle.plan.specs.declared.Plan.{Plan}
-use Rattle.plan.specs.Limits.{mostLines}
-use Rattle.plan.specs.Plan.{at, quantum}
+use Rattle.plan.specs.Plan.{quantum}
 use Rattle.theory.specs.Sending.{choose, roundAt, counterAt}
 use Rattle.theory.specs.Sending as S
 use Rattle.theory.specs.System.{Item, packet, marker, State, positions}
-use Rattle.sender.specs.History.{inTheory}
-use Rattle.receiver.specs.History.{Stage, stage}
-use Rattle.receiver.proofs.Stages.{Sound, HoldsOn}
+use Rattle.sending.specs.InTheory.{inTheory}
+use Rattle.receiving.specs.declared.Turn.{Turn}
+use Rattle.receiving.specs.Receiver.{turnOf}
+use Rattle.receiving.specs.Stage.{Stage, stage}
+use Rattle.receiving.proofs.Stages.{Sound, HoldsOn}
 use Rattle.bundle.specs.Worlds.{World}
 use Rattle.bundle.specs.Log.{parcelOf, entryOf}
+
+-- a line's turn at a position
+abbrev pub turnAt : ℕ → ℕ → Turn
+turnAt q x = record { round = roundAt q x; counter = counterAt q x }
 
 module _ (p : Plan) where
   abbrev pub theirs : S.Plan
@@ -33,11 +38,8 @@ module _ (p : Plan) where
   pub record Shows (s : Stage) (v : ℕ → ℕ) (items : ℕ → List Item) : Type 0 where
     pub plan : s .receiver .plan ≡ p
     pub sound : Sound s
-    pub rounds-length : length (s .receiver .rounds) ≡ mostLines
-    pub counters-length : length (s .receiver .counters) ≡ mostLines
-    pub round : s .receiver .round ≡ roundAt (quantum p (choose theirs v)) (v (choose theirs v))
-    pub rounds : (i : ℕ) → i < p .lines → at (s .receiver .rounds) i ≡ roundAt (quantum p i) (v i)
-    pub counters : (i : ℕ) → i < p .lines → at (s .receiver .counters) i ≡ counterAt (quantum p i) (v i)
+    pub round : s .receiver .turns .round ≡ roundAt (quantum p (choose theirs v)) (v (choose theirs v))
+    pub turns : (i : ℕ) → i < p .lines → turnOf (s .receiver .turns) i ≡ turnAt (quantum p i) (v i)
     pub holds : (i : ℕ) → i < p .lines → HoldsOn i s (map (entryOf p i) (items i))
     pub fit : (i : ℕ) → i < p .lines → AllFit (items i)
 

@@ -6,30 +6,34 @@ use mathlib.Core.Path.{_≡_, refl, sym, ap, _∙_, subst}
 use native.Mathlib.Omega.{arith}
 use borrow.Author.Tests.{eq-eqb, ne-eqb}
 use lib.Dec.{eqb}
-use lib.ListN.{length, set, drop, length-set}
-use lib.Seq.{getD-set-same, getD-set-other}
+use lib.ListN.{length, drop}
+use Rattle.numbers.specs.Wrap.{half}
 use Rattle.plan.specs.declared.Plan.{Plan}
 use Rattle.plan.specs.Limits.{mostLines}
-use Rattle.plan.specs.Plan.{at, quantum, planOk}
+use Rattle.plan.specs.Plan.{quantum, linePlan, planOk}
 use Rattle.plan.proofs.Laws.{in-range}
-use Rattle.theory.specs.Sending.{rounds, roundAt, counterAt}
+use Rattle.theory.specs.Sending.{rounds}
 use Rattle.theory.specs.System.{Item, packet, marker, State, positions, current, fetched, step, take}
 use Rattle.theory.specs.System as T
 use Rattle.theory.proofs.Choose.{choose-wins, div-mono}
 use Rattle.theory.proofs.Lines.{fetched-road}
 use Rattle.theory.proofs.Histories.{at-field, at-all}
-use Rattle.receiver.specs.declared.Receiver.{Receiver}
-use Rattle.receiver.specs.declared.Taken.the-variants.{Waiting}
-use Rattle.receiver.specs.Receiver.{lineAt, currentLine}
-use Rattle.receiver.specs.Taking.{Stepped, itemStep, roundNow, lineOf, TakeOutcome, taken, takeOf}
-use Rattle.receiver.specs.History.{Stage, stage, takenBy}
-use Rattle.receiver.proofs.Stages.{HoldsOn}
-use Rattle.receiver.proofs.Valid.{take-valid}
-use Rattle.receiver.proofs.Dropping.{taken-holds, taken-sound, taken-plan}
-use Rattle.receiver.proofs.Heads.{empty-waits, head-taken}
-use Rattle.bundle.specs.Worlds.{World, takes, call}
+use Rattle.receiving.specs.declared.Turn.{Turn}
+use Rattle.receiving.specs.declared.Turns.{Turns}
+use Rattle.receiving.specs.declared.Receiver.{Receiver}
+use Rattle.receiving.specs.declared.Taken.the-variants.{Waiting}
+use Rattle.receiving.specs.Receiver.{turnOf, lineOf, withTurn, roundOf, lineAt, currentLine}
+use Rattle.receiving.specs.Taking.{Stepped, itemOn, stepOf, roundNow, TakeOutcome, taken, takeOf}
+use Rattle.receiving.specs.Stage.{Stage, stage, takenBy}
+use Rattle.receiving.proofs.Lines.{turn-same, turn-other}
+use Rattle.receiving.proofs.Stages.{HoldsOn}
+use Rattle.receiving.proofs.Valid.{take-valid}
+use Rattle.receiving.proofs.Dropping.{taken-holds, taken-sound, taken-plan}
+use Rattle.receiving.proofs.Heads.{empty-waits, head-taken}
+use Rattle.bundle.specs.Events.{Parcel}
+use Rattle.bundle.specs.Worlds.{World}
 use Rattle.bundle.specs.Log.{parcelOf, entryOf}
-use Rattle.bundle.proofs.Meeting.{theirs, AllFit, Shows, Meets}
+use Rattle.bundle.proofs.Meeting.{turnAt, theirs, AllFit, Shows, Meets}
 use Rattle.bundle.proofs.Currents.{Within, line-is, round-is}
 
 -- a take leaves the rest of its queue
@@ -53,10 +57,16 @@ module _ (p : Plan) (good : planOk p ≡ true) (some : 1 ≤ p .lines) (w : Worl
     pub is-line : c < p .lines
     is-line = choose-wins (theirs p) some (positions s) .is-below
 
+    is-one : c < mostLines
+    is-one = omega (arith, is-line, in-range p good .few-lines)
+
+    round-shown : (i : ℕ) → i < p .lines → roundOf (r .turns) i ≡ turnAt (quantum p i) (positions s i) .round
+    round-shown i l = ap (λ (t : Turn). t .round) (m .far .turns i l)
+
     current-is : currentLine r ≡ c
     current-is =
-        ap (λ (q : Plan). lineAt (q .lines) (r .rounds) (r .round)) (m .far .plan)
-        ∙ line-is (theirs p) some (positions s) (r .rounds) (r .round) (m .far .rounds) (m .far .round) within
+        ap (λ (q : Plan). lineAt (q .lines) (roundOf (r .turns)) (r .turns .round)) (m .far .plan)
+        ∙ line-is (theirs p) some (positions s) (roundOf (r .turns)) (r .turns .round) round-shown (m .far .round) within
 
     held : (items : List Item) → s .line c .store ≡ items → HoldsOn (currentLine r) here (map (entryOf p c) items)
     held items e =
@@ -65,13 +75,14 @@ module _ (p : Plan) (good : planOk p ≡ true) (some : 1 ≤ p .lines) (w : Worl
 
     -- a take of the item in front, and one that finds none
     pub head-step : (out : List ℕ) (x : Item) (rest : List Item) → s .line c .store ≡ x ∷ rest
-        → takeOf r (w .store) out ≡ taken r c (itemStep p (r .size) c (lineOf r c) (entryOf p c x .kind) (entryOf p c x .bytes) out)
+        → takeOf r (w .store) out
+        ≡ taken r c (stepOf (linePlan p c) (r .rings .size) c (lineOf r c) out (itemOn (linePlan p c) c (entryOf p c x .kind) (entryOf p c x .bytes)))
     head-step out x rest e =
         let kind : ℕ = entryOf p c x .kind in
         let bytes : List ℕ = entryOf p c x .bytes in
         head-taken here (m .far .sound) out (entryOf p c x) (map (entryOf p c) rest) (held (x ∷ rest) e)
-        ∙ ap (λ (i : ℕ). taken r i (itemStep (r .plan) (r .size) i (lineOf r i) kind bytes out)) current-is
-        ∙ ap (λ (q : Plan). taken r c (itemStep q (r .size) c (lineOf r c) kind bytes out)) (m .far .plan)
+        ∙ ap (λ (i : ℕ). taken r i (stepOf (linePlan (r .plan) i) (r .rings .size) i (lineOf r i) out (itemOn (linePlan (r .plan) i) i kind bytes))) current-is
+        ∙ ap (λ (q : Plan). taken r c (stepOf (linePlan q c) (r .rings .size) c (lineOf r c) out (itemOn (linePlan q c) c kind bytes))) (m .far .plan)
 
     pub waits : (out : List ℕ) → s .line c .store ≡ []
         → takeOf r (w .store) out ≡ record { result = record { answer = Waiting c; next = r }; out = out }
@@ -94,12 +105,12 @@ module _ (p : Plan) (good : planOk p ≡ true) (some : 1 ≤ p .lines) (w : Worl
         same : (i : ℕ) → moved .line i .road ≡ s .line i .road
         same = at-field (λ (l : T.Line). l .road) c (fetched (theirs p) c) (s .line) (fetched-road (theirs p) c)
 
-    -- the item in front, x, is taken, its line goes to position y, and its figures become those of y
+    -- the item in front, x, is taken, its line goes to position y, and its turn becomes that of y
     module _ (out : List ℕ) (x : Item) (rest : List Item) (e : s .line c .store ≡ x ∷ rest)
         (y : ℕ) (to : T.takeOf (theirs p) c (x ∷ rest) (s .line c) .position ≡ y)
-        (up : s .line c .position ≤ y) (near : y / quantum p c < s .line c .position / quantum p c + 2147483648)
+        (up : s .line c .position ≤ y) (near : y / quantum p c < s .line c .position / quantum p c + half)
         (did : Stepped) (is : takeOf r (w .store) out ≡ taken r c did)
-        (round : did .step .line .round ≡ roundAt (quantum p c) y) (counter : did .step .line .counter ≡ counterAt (quantum p c) y)
+        (turn : did .step .line .turn ≡ turnAt (quantum p c) y)
         (one : (j : ℕ) → takenBy j (did .step .answer) ≡ cond (eqb c j) 1 0)
       where
         abbrev took : TakeOutcome
@@ -125,22 +136,20 @@ module _ (p : Plan) (good : planOk p ≡ true) (some : 1 ≤ p .lines) (w : Worl
         spans : Within (theirs p) some (positions moved) (rounds (theirs p) (positions s) c)
         spans =
             let from : ℕ = rounds (theirs p) (positions s) c in
-            each (λ i l. (from ≤ l .position / quantum p i + 1) × (l .position / quantum p i + 1 < from + 2147483648))
+            each (λ i l. (from ≤ l .position / quantum p i + 1) × (l .position / quantum p i + 1 < from + half))
             (λ _.
             let same : fetched (theirs p) c (s .line c) .position / quantum p c ≡ y / quantum p c = ap (λ (z : ℕ). z / quantum p c) position-now in
             (omega (arith, same, div-mono (quantum p c) _ _ up), omega (arith, same, near)))
             (λ j d l. within j l)
 
-        figures : (figure : ℕ → ℕ → ℕ) (list : List ℕ) (f : ℕ) → length list ≡ mostLines
-            → ((i : ℕ) → i < p .lines → at list i ≡ figure (quantum p i) (s .line i .position)) → f ≡ figure (quantum p c) y
-            → (i : ℕ) → i < p .lines → at (set list c f) i ≡ figure (quantum p i) (moved .line i .position)
-        figures figure list f long old new =
-            each (λ i l. at (set list c f) i ≡ figure (quantum p i) (l .position))
-            (λ l. getD-set-same list c f 0 (omega (arith, l, in-range p good .few-lines)) ∙ new ∙ ap (figure (quantum p c)) (sym position-now))
-            (λ j d l. getD-set-other list c j f 0 (λ q. d (sym q)) ∙ old j l)
+        abbrev turns : Turns
+        turns = withTurn (r .turns) c (did .step .line .turn)
 
-        new-rounds : (i : ℕ) → i < p .lines → at (set (r .rounds) c (did .step .line .round)) i ≡ roundAt (quantum p i) (moved .line i .position)
-        new-rounds = figures roundAt (r .rounds) (did .step .line .round) (m .far .rounds-length) (m .far .rounds) round
+        new-turns : (i : ℕ) → i < p .lines → turnOf turns i ≡ turnAt (quantum p i) (moved .line i .position)
+        new-turns =
+            each (λ i l. turnOf turns i ≡ turnAt (quantum p i) (l .position))
+            (λ l. turn-same (r .turns) c (did .step .line .turn) (m .far .sound .whole .turns) is-one ∙ turn ∙ ap (turnAt (quantum p c)) (sym position-now))
+            (λ j d l. turn-other (r .turns) c (did .step .line .turn) j (λ q. d (sym q)) ∙ m .far .turns j l)
 
         -- one item is gone from the line that was taken from, none from another
         gone : (j : ℕ) (t : Bool) → eqb c j ≡ t → takenBy j (took .result .answer) ≡ cond t 1 0
@@ -164,18 +173,16 @@ module _ (p : Plan) (good : planOk p ≡ true) (some : 1 ≤ p .lines) (w : Worl
         shows = record {
           plan = taken-plan here (m .far .sound) out ∙ m .far .plan;
           sound = taken-sound here (m .far .sound) out (take-valid r (w .store) out (m .far .sound .good));
-          rounds-length = rw is (length-set (r .rounds) c _ ∙ m .far .rounds-length);
-          counters-length = rw is (length-set (r .counters) c _ ∙ m .far .counters-length);
           round = rw is (
-              ap (λ (q : Plan). roundNow (q .lines) (set (r .rounds) c (did .step .line .round)) (r .round)) (m .far .plan)
-              ∙ round-is (theirs p) some (positions s) (positions moved) _ (r .round) new-rounds (m .far .round) spans);
-          rounds = rw is new-rounds;
-          counters = rw is (figures counterAt (r .counters) (did .step .line .counter) (m .far .counters-length) (m .far .counters) counter);
+              ap (λ (q : Plan). roundNow (q .lines) (roundOf turns) (r .turns .round)) (m .far .plan)
+              ∙ round-is (theirs p) some (positions s) (positions moved) (roundOf turns) (r .turns .round)
+              (λ i l. ap (λ (t : Turn). t .round) (new-turns i l)) (m .far .round) spans);
+          turns = rw is new-turns;
           holds = new-holds;
           fit = each (λ i l. AllFit p (l .store))
               (λ l. subst (AllFit p) (sym store-now) (subst (AllFit p) e (m .far .fit c l) .1))
               (λ j d l. m .far .fit j l);
         }
 
-        pub moves : Meets p (call w (takes out)) moved
+        pub moves : Meets p (record { sender = w .sender; receiver = took .result .next; store = w .store; road = w .road }) moved
         moves = roads-stay (took .result .next) shows

@@ -11,7 +11,7 @@ use borrow.Author.Tests.{le-leb}
 use Rattle.plan.specs.declared.Plan.{Plan}
 use Rattle.plan.specs.Plan.{chargeOf, trimmed}
 use Rattle.theory.specs.Sending as S
-use Rattle.theory.specs.System.{Item, packet, marker, Line, State, Step, take, fetched, takeOf, positions, current, step, run, packets, nth, outs}
+use Rattle.theory.specs.System.{Item, packet, marker, Line, State, Step, take, fetched, positions, current, step, run, packets, nth, outs}
 use Rattle.theory.specs.System as T
 use Rattle.theory.specs.Words.{total, before, NoneBehind, toCome}
 use Rattle.theory.specs.Words as W
@@ -21,22 +21,22 @@ use Rattle.theory.proofs.Lines.{fetched-lost}
 use Rattle.theory.proofs.Choose.{choose-wins}
 use Rattle.theory.proofs.Histories.{at-field, run-append, outs-append, near-split}
 use Rattle.theory.proofs.Lossless.{lossless-near}
-use Rattle.receiver.specs.declared.Receiver.{Receiver}
-use Rattle.receiver.specs.declared.Taken.{Taken}
-use Rattle.receiver.specs.declared.Taken.the-variants.{Waiting, Data, Missing, Behind, Refused}
-use Rattle.receiver.specs.Taking as receiver
-use Rattle.receiver.proofs.Valid.{open-valid}
-use Rattle.receiver.proofs.Histories.{is-open}
-use Rattle.bundle.specs.Worlds.{World, Call, takes, call, handedIn}
-use Rattle.bundle.specs.Log.{takeStep, log}
-use Rattle.bundle.specs.Words.{Opens, Names, NoPacket}
-use Rattle.bundle.specs.Demands.{theirs, opened, after, logOf, seen, sentOf, Near, NothingLost}
+use Rattle.receiving.specs.declared.Receiver.{Receiver}
+use Rattle.receiving.specs.declared.Taken.{Taken}
+use Rattle.receiving.specs.declared.Taken.the-variants.{Waiting, Data, Missing, Behind, Refused}
+use Rattle.receiving.specs.Taking.{takeOf}
+use Rattle.receiving.proofs.Opening.{is-open, open-valid}
+use Rattle.bundle.specs.Worlds.{World, Call, takes, takeSeen, call, handedIn}
+use Rattle.bundle.specs.Log.{stepsOf, log}
+use Rattle.bundle.specs.Words.{andThen, Opens, Names, NoPacket}
+use Rattle.bundle.specs.Demands.{theirs, opened, after, logOf, system, sentOf, Near, NothingLost}
 use Rattle.bundle.specs.Demands.{LogShown, ChargedBytes, SameRule, InOrder, AllOut, Reports, Order, Cleared, Valid, OnlyForCause, Promises}
 use Rattle.bundle.proofs.Meeting.{AllFit}
-use Rattle.bundle.proofs.Booth.{log-packets, kept-good, keeps, rule, share, marker-written}
+use Rattle.bundle.proofs.Histories.{log-append, handed-append, log-packets}
+use Rattle.bundle.proofs.Senders.{kept-good, keeps, rule, share, marker-written}
 use Rattle.bundle.proofs.Arrivals.{land-stored}
 use Rattle.bundle.proofs.Takes.{says}
-use Rattle.bundle.proofs.Runs.{log-append, handed-append, bytes-append, plan-sound, far, near-and, some, reaches}
+use Rattle.bundle.proofs.Runs.{bytes-append, plan-sound, far, near-and, some, reaches}
 use Rattle.bundle.proofs.Refusals.{calls-valid, calls-size}
 use Rattle.bundle.proofs.Drained.{none-queued, answers, queued, drained}
 
@@ -105,7 +105,7 @@ room-says p out i (marker j m ∷ rest) x fit room k e = missing-not-refused e
 takes-lose : (p : S.Plan) (outs : List (List ℕ)) (w : World) (s : State) (i : ℕ) → run p s (log w (map takes outs)) .line i .lost ≡ s .line i .lost
 takes-lose p [] w s i = refl
 takes-lose p (out ∷ outs) w s i =
-    go (receiver.takeOf (w .receiver) (w .store) out .result .answer)
+    go (takeOf (w .receiver) (w .store) out .result .answer)
     (takes-lose p outs (call w (takes out)) (step p s take) i
     ∙ at-field (λ (l : Line). l .lost) (current p s) (fetched p (current p s)) (s .line) (fetched-lost p (current p s)) i)
     (takes-lose p outs (call w (takes out)) s i)
@@ -114,7 +114,7 @@ takes-lose p (out ∷ outs) w s i =
     rest = log (call w (takes out)) (map takes outs)
 
     go : (t : Taken) → run p (step p s take) rest .line i .lost ≡ s .line i .lost → run p s rest .line i .lost ≡ s .line i .lost
-        → run p s (takeStep t ++ rest) .line i .lost ≡ s .line i .lost
+        → run p s (stepsOf (takeSeen (takeOf (w .receiver) (w .store) out .out) t) ++ rest) .line i .lost ≡ s .line i .lost
     go (Waiting j) one none = one
     go (Data j n) one none = one
     go (Missing j m) one none = one
@@ -132,7 +132,7 @@ module _ (p : Plan) (size : ℕ) (store : List ℕ) (o : Opens p size store) whe
   world h = after p size store h
 
   abbrev state : List Call → State
-  state h = seen p size store h
+  state h = system p size store h
 
   abbrev steps : List Call → List Step
   steps h = logOf p size store h
@@ -163,14 +163,14 @@ module _ (p : Plan) (size : ℕ) (store : List ℕ) (o : Opens p size store) whe
       let b = far p size store o .in-order (steps h) none in
       (b .0, ap (λ (l : List (List ℕ)). l ++ b .0) (reaches p size store o h (calm h none) .hands) ∙ b .1 ∙ log-packets h begin)
 
-  seen-append : (h g : List Call) → state (h ++ g) ≡ run plan (state h) (log (world h) g)
-  seen-append h g = ap (run plan T.opened) (log-append h g begin) ∙ run-append plan (steps h) (log (world h) g) T.opened
+  system-append : (h g : List Call) → state (h ++ g) ≡ run plan (state h) (log (world h) g)
+  system-append h g = ap (run plan T.opened) (log-append h g begin) ∙ run-append plan (steps h) (log (world h) g) T.opened
 
   all-out : AllOut p size store
   all-out h none roads outs many room =
       let g : List Call = h ++ map takes outs in
       let none-later : NothingLost p size store g =
-      λ i line. ap (λ (s : State). s .line i .lost) (seen-append h (map takes outs)) ∙ takes-lose plan outs (world h) (state h) i ∙ none i line in
+      λ i line. ap (λ (s : State). s .line i .lost) (system-append h (map takes outs)) ∙ takes-lose plan outs (world h) (state h) i ∙ none i line in
       let near = calm g none-later in
       reaches p size store o g near .hands
       ∙ ap (λ (l : List Step). bytesOf (T.outs plan T.opened l)) (drained p size store o h outs many room near)
@@ -228,13 +228,13 @@ module _ (p : Plan) (size : ℕ) (store : List ℕ) (o : Opens p size store) whe
       (subst (λ (l : List Step). W.NoPacket (F.after plan l .line i .store)) (sym (drained p size store o h outs many room near)) (far p size store o .cleared (steps h) marks i line)))
 
   valid : Valid p size store
-  valid h = (keeps p size store o h .valid, calls-valid h begin (open-valid p size (o .sixteen) (o .receiver)))
+  valid h = (keeps p size store o h .valid, calls-valid h begin (open-valid p size store (o .sixteen) (o .receiver) (o .long)))
 
   only-for-cause : OnlyForCause p size store
   only-for-cause = record {
     ask = marker-written p size store o;
     land = λ h near i x rest e room. land-stored (trimmed p) (world h) (state h) (reaches p size store o h near .meets) (kept-good p size store o) i x rest e
-        (rw (calls-size h begin ∙ ap (λ (r : Receiver). r .size) (is-open p size (o .receiver))) room);
+        (rw (calls-size h begin ∙ ap (λ (r : Receiver). r .rings .size) (is-open p size (o .receiver))) room);
     take = λ h out near room k e.
         let n = near-and p size store o h (takes out) near .0 in
         room-says (trimmed p) out _ (front plan (state h) .store) _

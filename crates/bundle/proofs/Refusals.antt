@@ -2,33 +2,36 @@
 use Prim.Native.Nat.{ℕ}
 use mathlib.Core.Bool.{Bool, true, false, cond}
 use mathlib.Core.List.{List, [], _∷_, _++_}
+use mathlib.Core.Logic.{inl, inr}
 use mathlib.Core.Path.{_≡_, refl, ap, _∙_}
 use lib.Dec.{eqb}
 use lib.ListN.{length, drop}
 use Rattle.numbers.specs.declared.Written.the-variants as written
 use Rattle.numbers.specs.Writing.{Outcome, outcome}
-use Rattle.sender.specs.declared.Sender.{Sender}
-use Rattle.sender.specs.declared.SendResult.{SendResult}
-use Rattle.sender.specs.declared.Sent.the-variants as sent
-use Rattle.sender.specs.Sender.{sendNumber, chargeNow, wentWith, refusedWith, sendOf, markerFrom}
-use Rattle.sender.proofs.Promises.{stays-valid}
-use Rattle.receiver.specs.declared.Receiver.{Receiver}
-use Rattle.receiver.specs.Receiver.{receiverOk}
-use Rattle.receiver.specs.Takes.{goesOn}
-use Rattle.receiver.proofs.Storing.{data-lands, marker-lands}
-use Rattle.receiver.proofs.Valid.{kept-sizes}
-use Rattle.receiver.proofs.Promises.{demand-1}
-use Rattle.bundle.specs.Worlds.{Parcel, packet, marker, World, Call, sends, asks, arrives, loses, takes, landing, landed, call, calls}
+use Rattle.sending.specs.declared.Sender.{Sender}
+use Rattle.sending.specs.declared.SendResult.{SendResult}
+use Rattle.sending.specs.declared.Sent.the-variants as sent
+use Rattle.sending.specs.Sender.{sendNumber, chargeNow, went, notSent, sendOf, markerFrom}
+use Rattle.sending.proofs.Promises.{stays-valid}
+use Rattle.receiving.specs.declared.Receiver.{Receiver}
+use Rattle.receiving.specs.Receiver.{receiverOk}
+use Rattle.receiving.specs.Arriving.{Arrival}
+use Rattle.receiving.proofs.Storing.{Lands}
+use Rattle.receiving.specs.Takes.{goesOn}
+use Rattle.receiving.proofs.Valid.{kept-sizes}
+use Rattle.receiving.proofs.Promises.{demand-1}
+use Rattle.bundle.specs.Events.{Parcel, packet, marker, asEntry}
+use Rattle.bundle.specs.Worlds.{World, Call, sends, asks, arrives, loses, takes, landing, landed, call, calls}
 use Rattle.bundle.specs.AnyState.{RefusedChangesNothing, ValidStaysValid}
-use Rattle.bundle.proofs.Calls.{went-not-refused, written-not-refused}
-use Rattle.bundle.proofs.Arrivals.{figures-stay}
+use Rattle.bundle.proofs.Senders.{went-not-refused, written-not-refused}
+use Rattle.bundle.proofs.Arrivals.{land-lands, land-valid}
 
 send-refused : (s : Sender) (size k : ℕ) → sendOf s size .answer ≡ sent.Refused k → sendOf s size .next ≡ s
 unfolding sendOf
 send-refused s size k = go (eqb (sendNumber s size) 0)
   where
     result : Bool → SendResult
-    result t = cond t (wentWith s (chargeNow s size)) (refusedWith s (sendNumber s size))
+    result t = cond t (went s (chargeNow s size)) (notSent s (sendNumber s size))
 
     go : (t : Bool) → result t .answer ≡ sent.Refused k → result t .next ≡ s
     go true e = absurd (went-not-refused e refl)
@@ -53,10 +56,6 @@ land-refused : (r : Receiver) (store : List ℕ) (i : ℕ) (x : Parcel) → (lan
     → (landing r store i x .arrived .next ≡ r) × (landing r store i x .store ≡ store)
 land-refused r store i (packet b) = demand-1 .data-refused r i b store
 land-refused r store i (marker b) = demand-1 .marker-refused r i b store
-
-pub land-valid : (r : Receiver) (store : List ℕ) (i : ℕ) (x : Parcel) → receiverOk r ≡ true → receiverOk (landing r store i x .arrived .next) ≡ true
-land-valid r store i (packet b) = demand-1 .data-valid r i b store
-land-valid r store i (marker b) = demand-1 .marker-valid r i b store
 
 pub refused-changes-nothing : RefusedChangesNothing
 refused-changes-nothing = record {
@@ -83,17 +82,20 @@ calls-valid (arrives i ∷ h) w good = calls-valid h (call w (arrives i)) (go (w
 calls-valid (loses i ∷ h) w good = calls-valid h (call w (loses i)) good
 calls-valid (takes out ∷ h) w good = calls-valid h (call w (takes out)) (demand-1 .take-valid (w .receiver) (w .store) out good)
 
-land-size : (r : Receiver) (store : List ℕ) (i : ℕ) (x : Parcel) → landing r store i x .arrived .next .size ≡ r .size
-land-size r store i (packet b) = figures-stay (λ r. r .size) r i 0 b store _ (data-lands r i b store) (λ n. refl)
-land-size r store i (marker b) = figures-stay (λ r. r .size) r i 1 b store _ (marker-lands r i b store) (λ n. refl)
+land-size : (r : Receiver) (store : List ℕ) (i : ℕ) (x : Parcel) → landing r store i x .arrived .next .rings .size ≡ r .rings .size
+land-size r store i x = go (asEntry x .kind) (asEntry x .bytes) (land-lands r store i x)
+  where
+    go : (kind : ℕ) (b : List ℕ) → Lands r i kind b store (landing r store i x) → landing r store i x .arrived .next .rings .size ≡ r .rings .size
+    go kind b (inl (has, e)) = ap (λ (a : Arrival). a .arrived .next .rings .size) e
+    go kind b (inr (some, e)) = ap (λ (a : Arrival). a .arrived .next .rings .size) e
 
-pub calls-size : (h : List Call) (w : World) → calls w h .receiver .size ≡ w .receiver .size
+pub calls-size : (h : List Call) (w : World) → calls w h .receiver .rings .size ≡ w .receiver .rings .size
 calls-size [] w = refl
 calls-size (sends x ∷ h) w = calls-size h (call w (sends x))
 calls-size (asks i out ∷ h) w = calls-size h (call w (asks i out))
 calls-size (arrives i ∷ h) w = calls-size h (call w (arrives i)) ∙ go (w .road i)
   where
-    go : (road : List Parcel) → landed w i road .receiver .size ≡ w .receiver .size
+    go : (road : List Parcel) → landed w i road .receiver .rings .size ≡ w .receiver .rings .size
     go [] = refl
     go (x ∷ rest) = land-size (w .receiver) (w .store) i x
 calls-size (loses i ∷ h) w = calls-size h (call w (loses i))

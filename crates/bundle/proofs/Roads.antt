@@ -4,7 +4,6 @@ use mathlib.Core.Bool.{Bool}
 use mathlib.Core.List.{List, [], _∷_, _++_, map, map-append, cons≢nil}
 use mathlib.Core.Path.{_≡_, refl, sym, ap, _∙_, subst, fun-ext}
 use native.Mathlib.Omega.{arith}
-use native.Mathlib.Decide.{ℕ-discrete}
 use borrow.Author.Tests.{eq-eqb, ne-eqb}
 use lib.ListN.{length, take, drop}
 use Rattle.numbers.specs.declared.Written.{Written}
@@ -15,12 +14,13 @@ use Rattle.theory.specs.System.{Item, Line, State, positions, put, dropped, los
 use Rattle.theory.specs.System as T
 use Rattle.theory.proofs.Lines.{dropped-position, dropped-store}
 use Rattle.theory.proofs.Histories.{at-field, at-all}
-use Rattle.sender.specs.declared.Sent.{Sent}
-use Rattle.sender.specs.declared.Sent.the-variants as sent
-use Rattle.sender.specs.Sender.{sendOf, markerFrom}
-use Rattle.receiver.specs.History.{stage}
-use Rattle.bundle.specs.Worlds.{Parcel, World, sends, asks, loses, withRoad, joins, sentOn, askedOn, call}
-use Rattle.bundle.specs.Log.{logged, markOf, parcelOf, sendStep, askStep, loseStep}
+use Rattle.sending.specs.declared.Sent.{Sent}
+use Rattle.sending.specs.declared.Sent.the-variants as went
+use Rattle.sending.specs.Sender.{sendOf, markerFrom}
+use Rattle.receiving.specs.Stage.{stage}
+use Rattle.bundle.specs.Events.{Parcel, Event}
+use Rattle.bundle.specs.Worlds.{World, sends, asks, loses, sendSeen, askSeen, loseSeen, seen, withRoad, joins, leaves, roadsAfter, call}
+use Rattle.bundle.specs.Log.{stepsOf, markOf, parcelOf}
 use Rattle.bundle.proofs.Meeting.{theirs, Fits, AllFit, Shows, Meets}
 
 module _ (p : Plan) where
@@ -50,14 +50,6 @@ module _ (p : Plan) where
       → Roads (w .road) (s .line) → Meets p w s
   meets w s far roads = record { far = far; roads = roads .same; on-road = roads .fit; off-road = roads .off }
 
--- where nothing is under way, nothing leaves
-empty-stays : (i : ℕ) (road : ℕ → List Parcel) → road i ≡ [] → withRoad i [] road ≡ road
-empty-stays i road e = fun-ext (λ j. go j (ℕ-discrete i j))
-  where
-    go : (j : ℕ) → Dec (i ≡ j) → withRoad i [] road j ≡ road j
-    go j (yes q) = rw (eq-eqb i j q, ← q) (sym e)
-    go j (no q) = rw (ne-eqb i j q) refl
-
 module _ (p : Plan) (w : World) (s : State) (m : Meets p w s) where
   on-roads : Roads p (w .road) (s .line)
   on-roads = record { same = m .roads; fit = m .on-road; off = m .off-road }
@@ -79,33 +71,36 @@ module _ (p : Plan) (w : World) (s : State) (m : Meets p w s) where
 
   -- a packet that is sent is in range, and goes to the choice by what the lines have carried
   pub send-meets : (x : List ℕ)
-      → ((i : ℕ) (due : Bool) → sendOf (w .sender) (length x) .answer ≡ sent.Went i due
+      → ((i : ℕ) (due : Bool) → sendOf (w .sender) (length x) .answer ≡ went.Went i due
       → (i ≡ choose (theirs p) (s .carries)) × (i < p .lines) × (1 ≤ length x) × (length x ≤ p .max))
-      → Meets p (call w (sends x)) (run (theirs p) s (logged w (sends x)))
+      → Meets p (call w (sends x)) (run (theirs p) s (stepsOf (seen w (sends x))))
   send-meets x goes = go (sendOf (w .sender) (length x) .answer) refl
     where
-      after : Sent → World
-      after a = record { sender = sendOf (w .sender) (length x) .next; receiver = w .receiver; store = w .store; road = sentOn a x (w .road) }
+      after : Event → World
+      after e = record { sender = sendOf (w .sender) (length x) .next; receiver = w .receiver; store = w .store; road = roadsAfter e (w .road) }
 
-      go : (a : Sent) → sendOf (w .sender) (length x) .answer ≡ a → Meets p (after a) (run (theirs p) s (sendStep a x))
-      go (sent.Went i due) e =
+      go : (a : Sent) → sendOf (w .sender) (length x) .answer ≡ a → Meets p (after (sendSeen x a)) (run (theirs p) s (stepsOf (sendSeen x a)))
+      go (went.Went i due) e =
           let g = goes i due e in
           let item = T.packet (s .sent) x in
           meets p _ _ (still (choose (theirs p) (s .carries)) (put item) (λ l. refl) (λ l. refl))
           (rw (← g .0) (joined i item (g .1) (g .2, g .3)))
-      go (sent.Refused k) e = meets p _ _ (m .far) on-roads
+      go (went.Refused k) e = meets p _ _ (m .far) on-roads
 
   -- a marker that is written is on a line, and shows what that line has carried
   pub ask-meets : (i : ℕ) (out : List ℕ)
       → ((n : ℕ) → markerFrom (w .sender) i out .answer ≡ written.Length n
       → (i < p .lines) × (take n (markerFrom (w .sender) i out .out) ≡ markOf p i (s .carries i)))
-      → Meets p (call w (asks i out)) (run (theirs p) s (logged w (asks i out)))
+      → Meets p (call w (asks i out)) (run (theirs p) s (stepsOf (seen w (asks i out))))
   ask-meets i out marks = go (markerFrom (w .sender) i out .answer) refl
     where
-      after : Written → World
-      after a = record { sender = w .sender; receiver = w .receiver; store = w .store; road = askedOn a i (markerFrom (w .sender) i out .out) (w .road) }
+      after : Event → World
+      after e = record { sender = w .sender; receiver = w .receiver; store = w .store; road = roadsAfter e (w .road) }
 
-      go : (a : Written) → markerFrom (w .sender) i out .answer ≡ a → Meets p (after a) (run (theirs p) s (askStep a i))
+      end : List ℕ
+      end = markerFrom (w .sender) i out .out
+
+      go : (a : Written) → markerFrom (w .sender) i out .answer ≡ a → Meets p (after (askSeen i end a)) (run (theirs p) s (stepsOf (askSeen i end a)))
       go (written.Length n) e =
           let g = marks n e in
           let item = T.marker (s .sent) (s .carries i) in
@@ -114,24 +109,24 @@ module _ (p : Plan) (w : World) (s : State) (m : Meets p w s) where
 
   -- line i's oldest item leaves its road
   pub left-road : (i : ℕ) (f : Line → Line) (x : Item) (rest : List Item) → s .line i .road ≡ x ∷ rest → f (s .line i) .road ≡ rest
-      → Roads p (withRoad i (map (parcelOf p i) rest) (w .road)) (at i f (s .line))
+      → Roads p (leaves i (w .road)) (at i f (s .line))
   left-road i f x rest e is =
       let all : AllFit p (x ∷ rest) = rw e at (m .on-road i) in
-      roads-change p (w .road) (s .line) on-roads i f _ (rw is refl) (rw is (all .1))
+      let others : drop 1 (w .road i) ≡ map (parcelOf p i) rest = ap (drop 1) (m .roads i ∙ ap (map (parcelOf p i)) e) in
+      roads-change p (w .road) (s .line) on-roads i f _ (others ∙ ap (map (parcelOf p i)) (sym is)) (rw is (all .1))
       (λ off. absurd (cons≢nil (sym e ∙ m .off-road i off)))
 
   -- and is lost
-  pub lose-line : (i : ℕ) (x : Item) (rest : List Item) → s .line i .road ≡ x ∷ rest
-      → Roads p (withRoad i (map (parcelOf p i) rest) (w .road)) (at i dropped (s .line))
+  pub lose-line : (i : ℕ) (x : Item) (rest : List Item) → s .line i .road ≡ x ∷ rest → Roads p (leaves i (w .road)) (at i dropped (s .line))
   lose-line i x rest e = left-road i dropped x rest e (ap (λ (road : List Item). loseOf road (s .line i) .road) e)
 
-  pub lose-meets : (i : ℕ) → Meets p (call w (loses i)) (run (theirs p) s (logged w (loses i)))
+  pub lose-meets : (i : ℕ) → Meets p (call w (loses i)) (run (theirs p) s (stepsOf (seen w (loses i))))
   lose-meets i = subst After (sym (m .roads i)) (go (s .line i .road) refl)
     where
       After : List Parcel → Type 0
-      After road = Meets p (record { sender = w .sender; receiver = w .receiver; store = w .store; road = withRoad i (drop 1 road) (w .road) })
-          (run (theirs p) s (loseStep i road))
+      After road = Meets p (record { sender = w .sender; receiver = w .receiver; store = w .store; road = roadsAfter (loseSeen i road) (w .road) })
+          (run (theirs p) s (stepsOf (loseSeen i road)))
 
       go : (road : List Item) → s .line i .road ≡ road → After (map (parcelOf p i) road)
-      go [] e = rw (empty-stays i (w .road) (m .roads i ∙ ap (map (parcelOf p i)) e)) (meets p _ _ (m .far) on-roads)
+      go [] e = meets p _ _ (m .far) on-roads
       go (x ∷ rest) e = meets p _ _ (still i dropped dropped-position dropped-store) (lose-line i x rest e)

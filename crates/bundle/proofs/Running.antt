@@ -8,17 +8,18 @@ use mathlib.Core.Logic.{_⊎_, inl, inr}
 use mathlib.Core.Path.{_≡_, refl, ap, sym, _∙_}
 use lib.ListN.{length, take, drop, set, length-append, length-set}
 use lib.Seq.{length-take-le, take-append-add, take-suc-set}
-use Rattle.receiver.specs.declared.Ended.{Ended}
-use Rattle.receiver.specs.declared.Taken.{Taken}
-use Rattle.receiver.specs.declared.Taken.the-variants.{Waiting, Data, Missing, Behind, Refused}
-use Rattle.receiver.specs.Taking.{takeOf}
-use Rattle.receiver.specs.Takes.{wordOf, bytesOf, endOf, goesOn, Run, stopped, takesFrom, takesOf}
-use Rattle.receiver.proofs.Valid.{out-length, bytes-fit}
-use Rattle.bundle.specs.Worlds.{World, takes, call, calls, handedBy, handedIn}
+use Rattle.receiving.specs.declared.Ended.{Ended}
+use Rattle.receiving.specs.declared.Taken.{Taken}
+use Rattle.receiving.specs.declared.Taken.the-variants.{Waiting, Data, Missing, Behind, Refused}
+use Rattle.receiving.specs.Taking.{takeOf}
+use Rattle.receiving.specs.Takes.{wordOf, bytesOf, endOf, goesOn, Run, stopped, takesFrom, takesOf}
+use Rattle.receiving.proofs.Valid.{out-length, bytes-fit}
+use Rattle.bundle.specs.Events.{Handed, handedBy, bytesOut}
+use Rattle.bundle.specs.Worlds.{World, takes, takeSeen, call, calls, handedOut, handedIn}
 use Rattle.bundle.specs.Running.{joined, answersIn, RunIsTakes}
 
 -- the packet of a take, if there is one, is the bytes that it has written
-joined-by : (t : Taken) (out : List ℕ) (rest : List (List ℕ)) → joined (handedBy t out ++ rest) ≡ take (bytesOf t) out ++ joined rest
+joined-by : (t : Taken) (out : List ℕ) (rest : List Handed) → joined (bytesOut (handedBy (takeSeen out t) ++ rest)) ≡ take (bytesOf t) out ++ joined (bytesOut rest)
 joined-by (Waiting i) out rest = refl
 joined-by (Data i n) out rest = refl
 joined-by (Missing i m) out rest = refl
@@ -83,7 +84,7 @@ module _ (w : World) (k at : ℕ) (out log : List ℕ) where
           count = omega (arith, rest .count);
           world = rest .world;
           bytes =
-              ap (λ (l : List ℕ). take at out ++ l) (joined-by answer part (handedIn next (map takes (rest .outs))))
+              ap (λ (l : List ℕ). take at out ++ l) (joined-by answer part (handedOut next (map takes (rest .outs))))
               ∙ sym (append-assoc (take at out) (take (bytesOf answer) part) handed)
               ∙ ap (λ (l : List ℕ). l ++ handed) (sym bytes-front)
               ∙ rest .bytes;

@@ -9,8 +9,9 @@ use lib.Dec.{leb}
 use lib.ListN.{length, drop}
 use lib.Seq.{take-append-seam}
 use Rattle.plan.specs.declared.Plan.{Plan}
-use Rattle.plan.specs.Plan.{quantum, planOk, chargeOf}
-use Rattle.plan.proofs.Laws.{charge-quantum}
+use Rattle.numbers.specs.Wrap.{half}
+use Rattle.plan.specs.Plan.{quantum, linePlan, planOk, chargeOf}
+use Rattle.plan.proofs.Laws.{line-in-range, charge-quantum}
 use Rattle.marker.specs.declared.MarkerRead.{MarkerRead}
 use Rattle.marker.specs.Marker.{markerOf}
 use Rattle.report.specs.declared.Report.{Report}
@@ -23,16 +24,20 @@ use Rattle.theory.specs.System as T
 use Rattle.theory.specs.FarEnd.{front, bytesOf, nearHead, Near}
 use Rattle.theory.proofs.Counting.{one-round-more}
 use Rattle.theory.proofs.Histories.{at-all}
-use Rattle.receiver.specs.declared.Receiver.{Receiver}
-use Rattle.receiver.specs.declared.Taken.{Taken}
-use Rattle.receiver.specs.declared.Taken.the-variants.{Waiting, Data, Missing, Refused}
-use Rattle.receiver.specs.Taking.{Stepped, stays, afterData, dataStep, reportStep, markerStep, itemStep, lineOf, taken, TakeOutcome, takeOf}
-use Rattle.receiver.specs.Takes.{goesOn}
-use Rattle.receiver.proofs.Taking.{data-item}
-use Rattle.receiver.proofs.Valid.{refused-stays}
-use Rattle.bundle.specs.Worlds.{World, takes, call, handedBy, reportedBy}
-use Rattle.bundle.specs.Log.{takeStep, markOf}
-use Rattle.bundle.proofs.Meeting.{theirs, AllFit, Meets}
+use Rattle.receiving.specs.declared.Receiver.{Receiver}
+use Rattle.receiving.specs.declared.Taken.{Taken}
+use Rattle.receiving.specs.declared.Taken.the-variants.{Waiting, Data, Missing, Refused}
+use Rattle.receiving.specs.declared.Turn.{Turn}
+use Rattle.receiving.specs.Receiver.{turnOf, lineOf}
+use Rattle.receiving.specs.Taking.{Head, Stepped, stays, past, chargedTurn, markerHead, itemOn, toldStep, stepOf, taken, TakeOutcome, takeOf}
+use Rattle.receiving.specs.Taking as head
+use Rattle.receiving.specs.Takes.{goesOn}
+use Rattle.receiving.proofs.Taking.{is-data, data-item}
+use Rattle.receiving.proofs.Valid.{refused-stays}
+use Rattle.bundle.specs.Events.{Event, handedBy, reportedBy, bytesOut}
+use Rattle.bundle.specs.Worlds.{World, takes, takeSeen, roadsAfter, call}
+use Rattle.bundle.specs.Log.{stepsOf, markOf}
+use Rattle.bundle.proofs.Meeting.{turnAt, theirs, AllFit, Meets}
 use Rattle.bundle.proofs.Marks.{some-quantum, mark-read}
 use Rattle.bundle.proofs.Figures.{round-next, counter-next, report-at}
 use Rattle.bundle.proofs.Currents.{Within}
@@ -71,16 +76,21 @@ module _ (p : Plan) (good : planOk p ≡ true) (some : 1 ≤ p .lines) (w : Worl
     some-q : 1 ≤ q
     some-q = some-quantum p good c line
 
-    -- what is to be shown of an answer and the output that it leaves
+    -- what is seen of an answer with the output that it leaves, and the world by that
+    abbrev after : Event → World
+    after e = record { sender = w .sender; receiver = took .result .next; store = w .store; road = roadsAfter e (w .road) }
+
+    -- what is to be shown of it
     record Done (items : List Item) (a : Taken) (o : List ℕ) : Type 0 where
       answer : a ≡ says out c items x
-      hands : handedBy a o ≡ bytesOf (outs (theirs p) s (takeStep a))
-      reports : (i : ℕ) → run (theirs p) s (takeStep a) .line i .reported ≡ s .line i .reported + reportedBy i a
-      meets : Meets p (call w (takes out)) (run (theirs p) s (takeStep a))
+      hands : bytesOut (handedBy (takeSeen o a)) ≡ bytesOf (outs (theirs p) s (stepsOf (takeSeen o a)))
+      reports : (i : ℕ) → run (theirs p) s (stepsOf (takeSeen o a)) .line i .reported ≡ s .line i .reported + reportedBy i (takeSeen o a)
+      meets : Meets p (after (takeSeen o a)) (run (theirs p) s (stepsOf (takeSeen o a)))
 
     -- a take that hands back the receiver's state leaves the world
-    idle : took .result .next ≡ w .receiver → call w (takes out) ≡ w
-    idle e = ap (λ (next : Receiver). record { sender = w .sender; receiver = next; store = w .store; road = w .road }) e
+    idle : (t : State) → took .result .next ≡ w .receiver → Meets p w t
+        → Meets p (record { sender = w .sender; receiver = took .result .next; store = w .store; road = w .road }) t
+    idle t e m = subst (λ (next : Receiver). Meets p (record { sender = w .sender; receiver = next; store = w .store; road = w .road }) t) (sym e) m
 
     nothing-here : s .line c .store ≡ [] → Done [] (took .result .answer) (took .out)
     nothing-here e =
@@ -92,17 +102,20 @@ module _ (p : Plan) (good : planOk p ≡ true) (some : 1 ≤ p .lines) (w : Worl
           answer = refl;
           hands = ap (λ (items : List Item). bytesOf (outOf items ++ [])) (sym e);
           reports = λ i. ap (λ (l : T.Line). l .reported) (lines i) ∙ omega arith;
-          meets = subst (λ (v : World). Meets p v (step (theirs p) s take)) (sym (idle (ap (λ (o : TakeOutcome). o .result .next) is)))
-              (subst (Meets p w) same m);
+          meets = idle (step (theirs p) s take) (ap (λ (o : TakeOutcome). o .result .next) is) (subst (Meets p w) same m);
         })
 
     -- what is reported on each line, by what is on the one that was taken from
-    reports-are : (a : Taken) (items : List Item) → s .line c .store ≡ items
-        → T.takeOf (theirs p) c items (s .line c) .reported ≡ s .line c .reported + reportedBy c a
-        → ((j : ℕ) → (c ≡ j → ⊥) → reportedBy j a ≡ 0) → (i : ℕ) → step (theirs p) s take .line i .reported ≡ s .line i .reported + reportedBy i a
-    reports-are a items e new others =
-        at-all (λ j l. l .reported ≡ s .line j .reported + reportedBy j a) c (fetched (theirs p) c) (s .line)
+    reports-are : (v : Event) (items : List Item) → s .line c .store ≡ items
+        → T.takeOf (theirs p) c items (s .line c) .reported ≡ s .line c .reported + reportedBy c v
+        → ((j : ℕ) → (c ≡ j → ⊥) → reportedBy j v ≡ 0) → (i : ℕ) → step (theirs p) s take .line i .reported ≡ s .line i .reported + reportedBy i v
+    reports-are v items e new others =
+        at-all (λ j l. l .reported ≡ s .line j .reported + reportedBy j v) c (fetched (theirs p) c) (s .line)
         (ap (λ (items : List Item). T.takeOf (theirs p) c items (s .line c) .reported) e ∙ new) (λ j d. omega (arith, others j d))
+
+    -- the line's turn, as the receiver has it
+    turn-is : turnOf (r .turns) c ≡ turnAt q x
+    turn-is = m .far .turns c line
 
     -- a packet in front
     module _ (k : ℕ) (b : List ℕ) (rest : List Item) (e : s .line c .store ≡ packet k b ∷ rest) where
@@ -110,49 +123,54 @@ module _ (p : Plan) (good : planOk p ≡ true) (some : 1 ≤ p .lines) (w : Worl
       fits = subst (AllFit p) e (m .far .fit c line) .0
 
       abbrev charge : ℕ
-      charge = chargeOf p c (length b)
+      charge = chargeOf (linePlan p c) (length b)
 
       charge-fits : charge ≤ q
-      charge-fits = charge-quantum p good c line (length b) (fits .0) (fits .1)
+      charge-fits = charge-quantum (linePlan p c) (line-in-range p good c line) (length b) (fits .0) (fits .1)
 
-      one-more : (x + charge) / q < x / q + 2147483648
+      one-more : (x + charge) / q < x / q + half
       one-more = omega (arith, one-round-more q x charge some-q charge-fits)
 
-      is-data : took ≡ taken r c (dataStep p (r .size) c (lineOf r c) b out)
-      is-data =
+      took-packet : took ≡ taken r c (stepOf (linePlan p c) (r .rings .size) c (lineOf r c) out (head.packet b))
+      took-packet =
           head-step p good some w s m within out (packet k b) rest e
-          ∙ ap (taken r c) (sym (data-item p (r .size) c (lineOf r c) 0 b out refl))
+          ∙ ap (λ (h : Head). taken r c (stepOf (linePlan p c) (r .rings .size) c (lineOf r c) out h))
+          (sym (is-data (linePlan p c) b (length b) refl (fits .0) (fits .1) ∙ data-item (linePlan p c) c 0 b refl))
 
       abbrev handed : Stepped
-      handed = record { step = record { answer = Data c (length b); line = afterData p (r .size) c (lineOf r c) (length b) }; out = onto b out }
+      handed = record {
+        step = record { answer = Data c (length b); line = past (r .rings .size) (lineOf r c) (length b) (chargedTurn (linePlan p c) (turnOf (r .turns) c) (length b)) };
+        out = onto b out;
+      }
+
+      -- the counter moves as the position does
+      turn-next : chargedTurn (linePlan p c) (turnOf (r .turns) c) (length b) ≡ turnAt q (x + charge)
+      turn-next =
+          ap (λ (t : Turn). chargedTurn (linePlan p c) t (length b)) turn-is
+          ∙ (λ n. record { round = round-next q x charge some-q charge-fits n; counter = counter-next q x charge some-q charge-fits n })
 
       a-packet : Done (packet k b ∷ rest) (took .result .answer) (took .out)
       a-packet = go (leb (length b) (length out)) refl
         where
           go : (t : Bool) → leb (length b) (length out) ≡ t → Done (packet k b ∷ rest) (took .result .answer) (took .out)
           go true t =
-              let is : took ≡ taken r c handed =
-              is-data ∙ ap (taken r c) (simp (le-leb 1 (length b) (fits .0), le-leb (length b) (p .max) (fits .1), t)) in
+              let is : took ≡ taken r c handed = took-packet ∙ ap (taken r c) (simp t) in
               rw is (record {
                 answer = simp t;
                 hands = ap (λ (bytes : List ℕ). bytes ∷ []) (take-append-seam b (drop (length b) out))
                     ∙ ap (λ (items : List Item). bytesOf (outOf items ++ [])) (sym e);
-                reports = reports-are (Data c (length b)) _ e (omega arith) (λ j d. refl);
-                meets = moves p good some w s m within out (packet k b) rest e (x + charge) refl (omega arith) one-more handed is
-                    (rw (m .far .rounds c line, m .far .counters c line) (round-next q x charge some-q charge-fits))
-                    (rw (m .far .counters c line) (counter-next q x charge some-q charge-fits))
-                    (λ j. refl);
+                reports = reports-are (takeSeen (onto b out) (Data c (length b))) _ e (omega arith) (λ j d. refl);
+                meets = moves p good some w s m within out (packet k b) rest e (x + charge) refl (omega arith) one-more handed is turn-next (λ j. refl);
               })
           go false t =
-              let is : took ≡ taken r c (stays (lineOf r c) (Refused 8) out) =
-              is-data ∙ ap (taken r c) (simp (le-leb 1 (length b) (fits .0), le-leb (length b) (p .max) (fits .1), t)) in
+              let is : took ≡ taken r c (stays (lineOf r c) (Refused 8) out) = took-packet ∙ ap (taken r c) (simp t) in
               let answered : took .result .answer ≡ Refused 8 = ap (λ (o : TakeOutcome). o .result .answer) is in
               let same = refused-stays r (w .store) out (ap goesOn answered) .0 in
               rw answered (record {
                 answer = simp t;
                 hands = refl;
                 reports = λ i. omega arith;
-                meets = subst (λ (v : World). Meets p v s) (sym (idle same)) m;
+                meets = idle s same m;
               })
 
     -- a marker in front, of position y
@@ -160,60 +178,63 @@ module _ (p : Plan) (good : planOk p ≡ true) (some : 1 ≤ p .lines) (w : Worl
       abbrev mark : List ℕ
       mark = markOf p c y
 
-      abbrev report-step : Report → Stepped
-      report-step t = reportStep (r .size) c (lineOf r c) (length mark) (roundAt q y) (counterAt q y) out t
+      abbrev told-step : Report → Stepped
+      told-step t = record { step = toldStep (r .rings .size) c (lineOf r c) (length mark) (markerOf c (roundAt q y) (counterAt q y)) t; out = out }
 
       abbrev told : Report
-      told = reportOf q (lineOf r c .round) (lineOf r c .counter) (markerOf c (roundAt q y) (counterAt q y))
+      told = reportOf q (turnOf (r .turns) c .round) (turnOf (r .turns) c .counter) (markerOf c (roundAt q y) (counterAt q y))
 
-      is-report : took ≡ taken r c (report-step told)
-      unfolding itemStep
+      is-report : took ≡ taken r c (told-step told)
+      unfolding itemOn
       is-report =
           head-step p good some w s m within out (marker k y) rest e
-          ∙ ap (λ (t : MarkerRead). taken r c (markerStep p (r .size) c (lineOf r c) (length mark) out t)) (mark-read p good c line y)
+          ∙ ap (λ (t : MarkerRead). taken r c (stepOf (linePlan p c) (r .rings .size) c (lineOf r c) out (markerHead (length mark) t))) (mark-read p good c line y)
 
       -- whatever it tells, the take is a step, so that the premise speaks of this marker
-      logged : (t : Report) → takeStep (report-step t .step .answer) ≡ take ∷ []
-      logged report.Behind = refl
-      logged (report.Missing missing) = refl
+      steps : (t : Report) (o : List ℕ) → stepsOf (takeSeen o (told-step t .step .answer)) ≡ take ∷ []
+      steps report.Behind o = refl
+      steps (report.Missing missing) o = refl
 
-      near-front : Near (theirs p) s (takeStep (took .result .answer)) → y / q < x / q + 2147483648
+      near-front : Near (theirs p) s (stepsOf (takeSeen (took .out) (took .result .answer))) → y / q < x / q + half
       near-front near =
-          let steps : takeStep (took .result .answer) ≡ take ∷ [] = ap (λ (o : TakeOutcome). takeStep (o .result .answer)) is-report ∙ logged told in
-          let front : nearHead (theirs p) c (s .line c) (s .line c .store) = subst (Near (theirs p) s) steps near .0 in
+          let is-take : stepsOf (takeSeen (took .out) (took .result .answer)) ≡ take ∷ [] =
+          ap (λ (o : TakeOutcome). stepsOf (takeSeen (o .out) (o .result .answer))) is-report ∙ steps told out in
+          let front : nearHead (theirs p) c (s .line c) (s .line c .store) = subst (Near (theirs p) s) is-take near .0 in
           subst (nearHead (theirs p) c (s .line c)) e front
 
-      a-marker : Near (theirs p) s (takeStep (took .result .answer)) → Done (marker k y ∷ rest) (took .result .answer) (took .out)
+      a-marker : Near (theirs p) s (stepsOf (takeSeen (took .out) (took .result .answer))) → Done (marker k y ∷ rest) (took .result .answer) (took .out)
       a-marker near =
           let ahead = near-front near in
           let up : x ≤ y = low k y rest e in
           let missing : told ≡ report.Missing (y - x) =
-          rw (m .far .rounds c line, m .far .counters c line) (report-at q x y c some-q up ahead) in
-          let did : Stepped = report-step (report.Missing (y - x)) in
-          let is : took ≡ taken r c did = is-report ∙ ap (λ (t : Report). taken r c (report-step t)) missing in
+          ap (λ (t : Turn). reportOf q (t .round) (t .counter) (markerOf c (roundAt q y) (counterAt q y))) turn-is ∙ report-at q x y c some-q up ahead in
+          let did : Stepped = told-step (report.Missing (y - x)) in
+          let is : took ≡ taken r c did = is-report ∙ ap (λ (t : Report). taken r c (told-step t)) missing in
           rw is (record {
             answer = refl;
             hands = ap (λ (items : List Item). bytesOf (outOf items ++ [])) (sym e);
-            reports = reports-are (Missing c (y - x)) _ e (rw (eq-eqb c c refl) refl) (λ j d. rw (ne-eqb c j d) refl);
-            meets = moves p good some w s m within out (marker k y) rest e y refl up ahead did is refl refl (λ j. refl);
+            reports = reports-are (takeSeen out (Missing c (y - x))) _ e (rw (eq-eqb c c refl) refl) (λ j d. rw (ne-eqb c j d) refl);
+            meets = moves p good some w s m within out (marker k y) rest e y refl up ahead did is refl (λ j. refl);
           })
 
-    done : (items : List Item) → s .line c .store ≡ items → Near (theirs p) s (takeStep (took .result .answer))
+    done : (items : List Item) → s .line c .store ≡ items → Near (theirs p) s (stepsOf (takeSeen (took .out) (took .result .answer)))
         → Done items (took .result .answer) (took .out)
     done [] e near = nothing-here e
     done (packet k b ∷ rest) e near = a-packet k b rest e
     done (marker k y ∷ rest) e near = a-marker k y rest e near
 
-    module _ (near : Near (theirs p) s (takeStep (took .result .answer))) where
+    module _ (near : Near (theirs p) s (stepsOf (takeSeen (took .out) (took .result .answer)))) where
       pub take-says : took .result .answer ≡ says out (current (theirs p) s) (front (theirs p) s .store) (front (theirs p) s .position)
       take-says = done _ refl near .answer
 
-      pub take-hands : handedBy (took .result .answer) (took .out) ≡ bytesOf (outs (theirs p) s (takeStep (took .result .answer)))
+      pub take-hands : bytesOut (handedBy (takeSeen (took .out) (took .result .answer)))
+          ≡ bytesOf (outs (theirs p) s (stepsOf (takeSeen (took .out) (took .result .answer))))
       take-hands = done _ refl near .hands
 
       pub take-reports : (i : ℕ)
-          → run (theirs p) s (takeStep (took .result .answer)) .line i .reported ≡ s .line i .reported + reportedBy i (took .result .answer)
+          → run (theirs p) s (stepsOf (takeSeen (took .out) (took .result .answer))) .line i .reported
+          ≡ s .line i .reported + reportedBy i (takeSeen (took .out) (took .result .answer))
       take-reports i = done _ refl near .reports i
 
-      pub take-meets : Meets p (call w (takes out)) (run (theirs p) s (takeStep (took .result .answer)))
+      pub take-meets : Meets p (call w (takes out)) (run (theirs p) s (stepsOf (takeSeen (took .out) (took .result .answer))))
       take-meets = done _ refl near .meets

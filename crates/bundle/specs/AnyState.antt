@@ -4,14 +4,15 @@ use mathlib.Core.Bool.{true}
 use mathlib.Core.List.{List}
 use mathlib.Core.Path.{_≡_}
 use Rattle.numbers.specs.declared.Written.the-variants as written
-use Rattle.sender.specs.declared.Sender.{Sender}
-use Rattle.sender.specs.declared.Sent.the-variants as sent
-use Rattle.sender.specs.Sender.{senderOk, sendOf, markerFrom}
-use Rattle.receiver.specs.declared.Receiver.{Receiver}
-use Rattle.receiver.specs.declared.Taken.the-variants as taken
-use Rattle.receiver.specs.Receiver.{receiverOk}
-use Rattle.receiver.specs.Taking.{takeOf}
-use Rattle.bundle.specs.Worlds.{Parcel, landing}
+use Rattle.sending.specs.declared.Sender.{Sender}
+use Rattle.sending.specs.declared.Sent.the-variants as sent
+use Rattle.sending.specs.Sender.{senderOk, sendOf, markerFrom}
+use Rattle.receiving.specs.declared.Receiver.{Receiver}
+use Rattle.receiving.specs.declared.Taken.the-variants as taken
+use Rattle.receiving.specs.Receiver.{receiverOk}
+use Rattle.receiving.specs.Taking.{takeOf}
+use Rattle.bundle.specs.Events.{Parcel}
+use Rattle.bundle.specs.Worlds.{landing}
 
 -- a refusal hands back the state and changes no lent byte
 pub record RefusedChangesNothing : Type 0 where

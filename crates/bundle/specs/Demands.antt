@@ -7,22 +7,24 @@ use lib.ListN.{length}
 use Rattle.numbers.specs.declared.Written.the-variants as written
 use Rattle.plan.specs.declared.Plan.{Plan}
 use Rattle.plan.specs.Limits.{itemHead}
-use Rattle.plan.specs.Plan.{at, quantum, chargeOf, trimmed}
-use Rattle.theory.specs.Sending.{ends, ended, dueAfter}
+use Rattle.plan.specs.Plan.{quantum, linePlan, chargeOf, trimmed}
+use Rattle.theory.specs.Sending.{ends, dueAfter}
 use Rattle.theory.specs.Sending as S
 use Rattle.theory.specs.Demands.{Lowest}
 use Rattle.theory.specs.System as T
 use Rattle.theory.specs.Words.{Beginning, total, before, Yielded, NoneBehind, HasMarker, toCome}
 use Rattle.theory.specs.FarEnd as F
-use Rattle.sender.specs.declared.Sent.the-variants as sent
-use Rattle.sender.specs.Sender.{senderOk, sendOf, markerOn, markerFrom}
-use Rattle.sender.specs.History.{inTheory}
-use Rattle.receiver.specs.declared.Taken.the-variants as taken
-use Rattle.receiver.specs.Receiver.{receiverOk}
-use Rattle.receiver.specs.Taking.{takeOf}
-use Rattle.bundle.specs.Worlds.{Parcel, World, Call, sends, takes, start, landing, calls, sentIn, handedIn, reportedIn}
-use Rattle.bundle.specs.Words.{Names, Roomy, queue, heldBelow, NoPacket, bytesOf}
+use Rattle.sending.specs.declared.Sent.the-variants as sent
+use Rattle.sending.specs.Sender.{senderOk, sendOf, lineMarker, markerFrom}
+use Rattle.sending.specs.InTheory.{inTheory}
+use Rattle.receiving.specs.declared.Taken.the-variants as taken
+use Rattle.receiving.specs.Receiver.{heldOf, receiverOk}
+use Rattle.receiving.specs.Taking.{takeOf}
+use Rattle.bundle.specs.Events.{Parcel}
+use Rattle.bundle.specs.Worlds.{World, Call, sends, takes, start, landing, calls, sentIn, handedIn, reportedIn}
+use Rattle.bundle.specs.Words.{andThen, Names, Roomy, queue, heldBelow, NoPacket, bytesOf}
 use Rattle.bundle.specs.Log.{log, parcelOf, entryOf}
+use Rattle.bundle.specs.Booth.{carriedBy, endedBy}
 
 module _ (p : Plan) (size : ℕ) (store : List ℕ) where
   -- the plan as both ends keep it: zeros from line N on
@@ -42,21 +44,18 @@ module _ (p : Plan) (size : ℕ) (store : List ℕ) where
   abbrev pub logOf : List Call → List T.Step
   logOf h = log opened h
 
-  abbrev pub seen : List Call → T.State
-  seen h = F.after theirs (logOf h)
+  abbrev pub system : List Call → T.State
+  system h = F.after theirs (logOf h)
 
   -- the packets sent, and by them what each line has carried and how many full rounds have ended
   abbrev pub sentOf : List Call → List (List ℕ)
   sentOf h = sentIn opened h
 
   abbrev pub carried : List Call → ℕ → ℕ
-  carried h = S.carried theirs (T.sizes (sentOf h)) (length (sentOf h))
+  carried h = carriedBy kept (sentOf h)
 
-  abbrev pub endedBy : List Call → ℕ
-  endedBy h = ended theirs (T.sizes (sentOf h)) (length (sentOf h))
-
-  abbrev pub andThen : List Call → Call → List Call
-  andThen h e = h ++ (e ∷ [])
+  abbrev pub roundsEnded : List Call → ℕ
+  roundsEnded h = endedBy kept (sentOf h)
 
   -- each marker, when taken, is fewer than 2^31 rounds ahead of its line
   abbrev pub Near : List Call → Type 0
@@ -64,7 +63,7 @@ module _ (p : Plan) (size : ℕ) (store : List ℕ) where
 
   -- nothing lost: on no line, on its way or refused where it arrived; nothing under way
   abbrev pub NothingLost : List Call → Type 0
-  NothingLost h = F.NothingLost theirs (seen h)
+  NothingLost h = F.NothingLost theirs (system h)
 
   abbrev pub NothingUnderWay : List Call → Type 0
   NothingUnderWay h = (i : ℕ) → i < p .lines → after h .road i ≡ []
@@ -73,8 +72,8 @@ module _ (p : Plan) (size : ℕ) (store : List ℕ) where
   pub record Shown (h : List Call) : Type 0 where
     pub sent : sentOf h ≡ T.packets (logOf h)
     pub handed : handedIn opened h ≡ F.bytesOf (T.outs theirs T.opened (logOf h))
-    pub road : (i : ℕ) → after h .road i ≡ map (parcelOf kept i) (seen h .line i .road)
-    pub queued : (i : ℕ) → i < p .lines → queue (after h) i ≡ map (entryOf kept i) (seen h .line i .store)
+    pub road : (i : ℕ) → after h .road i ≡ map (parcelOf kept i) (system h .line i .road)
+    pub queued : (i : ℕ) → i < p .lines → queue (after h) i ≡ map (entryOf kept i) (system h .line i .store)
 
   abbrev pub LogShown : Type 0
   LogShown = (h : List Call) → Near h → Shown h
@@ -97,8 +96,8 @@ module _ (p : Plan) (size : ℕ) (store : List ℕ) where
   abbrev pub Share : Type 0
   Share =
       (h : List Call) (x : List ℕ) → 1 ≤ length x → length x ≤ p .max → ends theirs (carried h) (length x) ≡ true → (i : ℕ) → i < p .lines
-      → (endedBy (andThen h (sends x)) * quantum p i ≤ carried (andThen h (sends x)) i)
-      × (carried (andThen h (sends x)) i < endedBy (andThen h (sends x)) * quantum p i + chargeOf kept i (p .max))
+      → (roundsEnded (andThen h (sends x)) * quantum p i ≤ carried (andThen h (sends x)) i)
+      × (carried (andThen h (sends x)) i < roundsEnded (andThen h (sends x)) * quantum p i + chargeOf (linePlan kept i) (p .max))
 
   -- ---- demand 2, the stage
 
@@ -106,7 +105,7 @@ module _ (p : Plan) (size : ℕ) (store : List ℕ) where
   abbrev pub SameRule : Type 0
   SameRule =
       (h : List Call) (out : List ℕ) → Near (andThen h (takes out))
-      → (i : ℕ) × Lowest theirs (T.positions (seen h)) i × Names i (takeOf (after h .receiver) (after h .store) out .result .answer)
+      → (i : ℕ) × Lowest theirs (T.positions (system h)) i × Names i (takeOf (after h .receiver) (after h .store) out .result .answer)
 
   -- Nothing lost: what is handed out is a beginning of what was sent,
   abbrev pub InOrder : Type 0
@@ -126,22 +125,22 @@ module _ (p : Plan) (size : ℕ) (store : List ℕ) where
   Reports =
       (h : List Call) (out : List ℕ) (i m : ℕ) → Near (andThen h (takes out))
       → takeOf (after h .receiver) (after h .store) out .result .answer ≡ taken.Missing i m
-      → (k position : ℕ) × (rest : List T.Item) × (seen h .line i .store ≡ T.marker k position ∷ rest)
-      × (m + reportedIn i opened h ≡ total (before theirs i k) (seen h .line i .lost))
+      → (k position : ℕ) × (rest : List T.Item) × (system h .line i .store ≡ T.marker k position ∷ rest)
+      × (m + reportedIn i opened h ≡ total (before theirs i k) (system h .line i .lost))
 
   -- Calls h₁ up to some moment, h₂ from there on. In h₁ each line i has yielded a marker, labelled c i, behind which no packet is lost: what is
   -- handed out in h₂ is, in sent order without gaps, a beginning of the packets sent behind those markers and still to come.
   abbrev pub Order : Type 0
   Order =
       (h₁ h₂ : List Call) (c : ℕ → ℕ) → Near (h₁ ++ h₂)
-      → ((i : ℕ) → i < p .lines → Yielded (c i) (seen h₁ .line i .taken))
-      → ((i : ℕ) → i < p .lines → NoneBehind (c i) (seen (h₁ ++ h₂) .line i .lost))
-      → Beginning (handedIn (after h₁) h₂) (F.bytesOf (toCome theirs (T.nth (sentOf (h₁ ++ h₂))) c (seen h₁) (length (sentOf (h₁ ++ h₂)))))
+      → ((i : ℕ) → i < p .lines → Yielded (c i) (system h₁ .line i .taken))
+      → ((i : ℕ) → i < p .lines → NoneBehind (c i) (system (h₁ ++ h₂) .line i .lost))
+      → Beginning (handedIn (after h₁) h₂) (F.bytesOf (toCome theirs (T.nth (sentOf (h₁ ++ h₂))) c (system h₁) (length (sentOf (h₁ ++ h₂)))))
 
   -- With a marker sent after the last packet stored on every line, as many takes with room as items held leave no packet queued.
   abbrev pub Cleared : Type 0
   Cleared =
-      (h : List Call) → ((i : ℕ) → i < p .lines → HasMarker (seen h .sent) (seen h .line i .store))
+      (h : List Call) → ((i : ℕ) → i < p .lines → HasMarker (system h .sent) (system h .line i .store))
       → (outs : List (List ℕ)) → length outs ≡ heldBelow (after h) (p .lines) → Roomy (after h) outs → Near (h ++ map takes outs)
       → (i : ℕ) → i < p .lines → NoPacket (queue (after (h ++ map takes outs)) i)
 
@@ -153,10 +152,10 @@ module _ (p : Plan) (size : ℕ) (store : List ℕ) where
   -- Nothing is refused but for cause (for a packet to be sent: `Rule`): a marker with room is written, a parcel put on a line is stored where its
   -- ring has room, and a take with room for the largest packet is not refused. (Without this an end that refuses everything would pass.)
   pub record OnlyForCause : Type 0 where
-    pub ask : (h : List Call) (i : ℕ) (out : List ℕ) → i < p .lines → length (markerOn (after h .sender) i) ≤ length out
-        → markerFrom (after h .sender) i out .answer ≡ written.Length (length (markerOn (after h .sender) i))
+    pub ask : (h : List Call) (i : ℕ) (out : List ℕ) → i < p .lines → length (lineMarker (after h .sender) i) ≤ length out
+        → markerFrom (after h .sender) i out .answer ≡ written.Length (length (lineMarker (after h .sender) i))
     pub land : (h : List Call) → Near h → (i : ℕ) (x : Parcel) (rest : List Parcel) → after h .road i ≡ x ∷ rest
-        → itemHead + length (bytesOf x) ≤ size - at (after h .receiver .used) i → landing (after h .receiver) (after h .store) i x .arrived .number ≡ 0
+        → itemHead + length (bytesOf x) ≤ size - heldOf (after h .receiver .rings) i .used → landing (after h .receiver) (after h .store) i x .arrived .number ≡ 0
     pub take : (h : List Call) (out : List ℕ) → Near (andThen h (takes out)) → p .max ≤ length out → (k : ℕ)
         → takeOf (after h .receiver) (after h .store) out .result .answer ≡ taken.Refused k → ⊥
 

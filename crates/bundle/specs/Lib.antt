@@ -1,6 +1,9 @@
+pub mod Events
 pub mod Worlds
-pub mod Log
-pub mod AnyState
 pub mod Words
+pub mod Log
+pub mod Booth
+pub mod Queues
+pub mod AnyState
 pub mod Demands
 pub mod Running

@@ -5,9 +5,9 @@ use mathlib.Core.List.{List, [], _∷_, _++_, map}
 use mathlib.Core.Logic.{_⊎_}
 use mathlib.Core.Path.{_≡_}
 use lib.ListN.{length, take, drop}
-use Rattle.receiver.specs.declared.Taken.{Taken}
-use Rattle.receiver.specs.Taking.{takeOf}
-use Rattle.receiver.specs.Takes.{wordOf, goesOn, Run, takesOf}
+use Rattle.receiving.specs.declared.Taken.{Taken}
+use Rattle.receiving.specs.Taking.{takeOf}
+use Rattle.receiving.specs.Takes.{wordOf, goesOn, Run, takesOf}
 use Rattle.bundle.specs.Worlds.{World, takes, call, calls, handedIn}
 
 -- bytes one behind another

@@ -1,25 +1,30 @@
 -- The words in which the demands are said of calls.
 use Prim.Native.Nat.{ℕ, zero, suc, _+_, _*_}
-use mathlib.Core.List.{List, [], _∷_}
+use mathlib.Core.List.{List, [], _∷_, _++_}
 use mathlib.Core.Path.{_≡_}
 use lib.ListN.{length}
 use Rattle.plan.specs.declared.Plan.{Plan}
 use Rattle.plan.specs.Limits.{mostLines}
-use Rattle.sender.specs.Sender as sender
+use Rattle.sending.specs.Sender.{openSender}
 use Rattle.ring.specs.Queue.{Entry}
-use Rattle.receiver.specs.declared.Taken.{Taken}
-use Rattle.receiver.specs.declared.Taken.the-variants as taken
-use Rattle.receiver.specs.Receiver as receiver
-use Rattle.receiver.specs.Taking.{takeOf}
-use Rattle.receiver.specs.History.{stage, queueOn}
-use Rattle.bundle.specs.Worlds.{Parcel, packet, marker, World, takes, call}
+use Rattle.receiving.specs.declared.Taken.{Taken}
+use Rattle.receiving.specs.declared.Taken.the-variants as taken
+use Rattle.receiving.specs.Receiver.{openReceiver}
+use Rattle.receiving.specs.Taking.{takeOf}
+use Rattle.receiving.specs.Stage.{stage, queueOn}
+use Rattle.bundle.specs.Events.{Parcel, packet, marker}
+use Rattle.bundle.specs.Worlds.{World, Call, takes, call}
 
 -- Both ends opened on one plan and S bytes a line, over a store of N × S bytes (a plan's quanta are an array of sixteen)
 pub record Opens (p : Plan) (size : ℕ) (store : List ℕ) : Type 0 where
   pub sixteen : length (p .quanta) ≡ mostLines
-  pub sender : sender.openOf p .number ≡ 0
-  pub receiver : receiver.openOf p size .number ≡ 0
+  pub sender : openSender p .number ≡ 0
+  pub receiver : openReceiver p size .number ≡ 0
   pub long : length store ≡ p .lines * size
+
+-- one call more
+abbrev pub andThen : List Call → Call → List Call
+andThen h e = h ++ (e ∷ [])
 
 -- an answer of a take about line i: no marker is behind, and it is refused only for want of room
 abbrev pub Names : ℕ → Taken → Type 0

@@ -7,7 +7,9 @@ ghost use Rattle.bundle.specs.AnyState.{RefusedChangesNothing, ValidStay
 ghost use Rattle.bundle.specs.Words.{Opens};
 ghost use Rattle.bundle.specs.Demands.{Promises};
 ghost use Rattle.bundle.specs.Running.{RunIsTakes};
+ghost use Rattle.bundle.specs.Booth as booth;
+ghost use Rattle.bundle.specs.Queues as queues;
 
 fn promised()
-    ensures { λ _. ⌜ RefusedChangesNothing × ValidStaysValid × RunIsTakes × ((p : Plan) (size : ℕ) (store : List ℕ) → Opens p size store → Promises p size store) ⌝ }
+    ensures { λ _. ⌜ RefusedChangesNothing × ValidStaysValid × RunIsTakes × booth.EveryHistory × queues.EveryHistory × ((p : Plan) (size : ℕ) (store : List ℕ) → Opens p size store → Promises p size store) ⌝ }
 {}

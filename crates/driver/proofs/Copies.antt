@@ -8,14 +8,14 @@ use borrow.Author.Tests.{eq-eqb}
 use Rattle.numbers.specs.Checks.{check}
 use Rattle.numbers.specs.Coding.{Bytes}
 use Rattle.numbers.specs.Writing.{room, written, outcome}
-use Rattle.plan.specs.Plan.{planOk}
-use Rattle.plan.specs.Record.{bare, readPlan, refusedPlan, planRead, planWritten}
+use Rattle.plan.specs.Plan.{noPlan, planOk}
+use Rattle.plan.specs.Record.{readPlan, refusedPlan, planRead, planWritten}
 use Rattle.plan.proofs.Laws.{as-written}
 use Rattle.plan.proofs.Promises.{read-or-refused, read-is-written}
 use Rattle.driver.specs.Exports.{copied}
 
 -- no writer takes the all-zero plan
-zeros-refused : (s out : List ℕ) → planWritten (bare 0 0 0) out ≡ outcome 1 s out
+zeros-refused : (s out : List ℕ) → planWritten noPlan out ≡ outcome 1 s out
 unfolding planWritten planOk outcome
 zeros-refused s out = refl
 

@@ -14,8 +14,8 @@ use contract.Monad.{Fun, fact}
 use denote.Triple.Clauses.{AtExit}
 use denote.Triple.Entry.{Args}
 use Rattle.numbers.proofs.Tight.{only, OneAnswer, OneOutcome}
-use Rattle.sender.specs.declared.Sender.{Sender}
-use Rattle.sender.specs.Sender.{sendOf, markerFrom}
+use Rattle.sending.specs.declared.Sender.{Sender}
+use Rattle.sending.specs.Sender.{sendOf, markerFrom}
 use Rattle.driver.specs.Exports.{exported, exportedSent, openFrom}
 use Rattle.driver.proofs.stripes_write_marker.Reads as write-marker
 use Rattle.driver.proofs.stripes_write_marker.Kinds as write-marker-kinds

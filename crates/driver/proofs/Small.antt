@@ -20,8 +20,8 @@ use Rattle.plan.proofs.Promises.{fifty-four-bytes}
 use Rattle.marker.specs.declared.Marker.{Marker}
 use Rattle.marker.specs.Marker.{markerOf, markerBytes, counterOk, lineOk, markerWritten}
 use Rattle.plan.specs.Plan.{at}
-use Rattle.sender.specs.declared.Sender.{Sender}
-use Rattle.sender.specs.Sender.{senderOk, markerOn, markerFrom}
+use Rattle.sending.specs.declared.Sender.{Sender}
+use Rattle.sending.specs.Sender.{senderOk, lineMarker, markerFrom}
 use Rattle.driver.specs.Exports.{exported}
 
 outcome-small : (number : ℕ) (bytes out : List ℕ) → number ≤ 10 → length bytes ≤ 99 → exported (outcome number bytes out .answer) < 2 ^ 32
@@ -68,6 +68,6 @@ written-small m out =
 pub asked-small : (s : Sender) (i : ℕ) (out : List ℕ) → exported (markerFrom s i out .answer) < 2 ^ 32
 unfolding markerFrom
 asked-small s i out =
-    outcome-small _ (markerOn s i) out
-    (three 2 3 8 (omega arith) (omega arith) (omega arith) (senderOk s) (ltb i (s .plan .lines)) (leb (length (markerOn s i)) (length out)))
+    outcome-small _ (lineMarker s i) out
+    (three 2 3 8 (omega arith) (omega arith) (omega arith) (senderOk s) (ltb i (s .plan .lines)) (leb (length (lineMarker s i)) (length out)))
     (marker-short (markerOf i (at (s .rounds) i) (at (s .counters) i)))

@@ -12,11 +12,11 @@ use Rattle.plan.specs.Record.{planRead, planWritten}
 use Rattle.marker.specs.declared.MarkerRead.{MarkerRead}
 use Rattle.marker.specs.declared.MarkerRead.the-variants as m
 use Rattle.marker.specs.Marker.{markerOf}
-use Rattle.sender.specs.declared.Sender.{Sender}
-use Rattle.sender.specs.declared.Sent.{Sent}
-use Rattle.sender.specs.declared.Sent.the-variants as s
-use Rattle.sender.specs.declared.SenderOpened.{SenderOpened}
-use Rattle.sender.specs.Sender.{openOf, sendOf}
+use Rattle.sending.specs.declared.Sender.{Sender}
+use Rattle.sending.specs.declared.Sent.{Sent}
+use Rattle.sending.specs.declared.Sent.the-variants as s
+use Rattle.sending.specs.declared.SenderOpened.{SenderOpened}
+use Rattle.sending.specs.Sender.{openSender, sendOf}
 use Rattle.driver.specs.declared.CodedSend.{CodedSend}
 
 -- a writer's: the length written, or 256 plus the table's number
@@ -58,4 +58,4 @@ codedSend s length = record { code = exportedSent (sendOf s length .answer); nex
 
 -- a sender opened on the plan of a record
 abbrev pub openFrom : List ℕ → SenderOpened
-openFrom bytes = openOf (planRead bytes .plan)
+openFrom bytes = openSender (planRead bytes .plan)

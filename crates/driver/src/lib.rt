@@ -5,16 +5,16 @@ use marker::Marker;
 use marker::MarkerRead;
 use numbers::Reading;
 use numbers::Written;
-use sender::Sender;
-use sender::SenderOpened;
-use sender::Sent;
+use sending::Sender;
+use sending::SenderOpened;
+use sending::Sent;
 ghost use mathlib.Core.Path.{_≡_};
 ghost use Prim.Native.Nat.{_<_, _^_};
 ghost use Rattle.numbers.specs.Coding.{readingOf, coded};
 ghost use Rattle.numbers.specs.Writing.{written};
 ghost use Rattle.plan.specs.Record.{planRead};
 ghost use Rattle.marker.specs.Marker.{markerOf, markerRead, markerWritten};
-ghost use Rattle.sender.specs.Sender.{sendOf, markerFrom};
+ghost use Rattle.sending.specs.Sender.{sendOf, markerFrom};
 ghost use Rattle.driver.specs.Exports.{exported, exportedReading, exportedMarker, copied, exportedSent, codedSend, openFrom};
 
 // A writer's answer as C gets it.

@@ -6,7 +6,7 @@ use mathlib.Core.Bool.{Bool, true, false, cond}
 use mathlib.Core.List.{List, [], _∷_, _++_}
 use lib.ListN.{length, drop, length-drop}
 use lib.Dec.{eqb}
-use borrow.Author.Tests.{lt-ltb, le-ltb, ltb-true, eq-eqb, ne-eqb, eqb-true}
+use borrow.Author.Tests.{lt-ltb, le-ltb, ltb-true, eq-eqb, ne-eqb, eqb-true, eqb-false}
 use Rattle.numbers.specs.declared.Reading.{Reading}
 use Rattle.numbers.specs.declared.Reading.the-variants.{Number, Nothing}
 use Rattle.numbers.specs.declared.Written.the-variants as w
@@ -18,7 +18,7 @@ use Rattle.plan.specs.Limits.{mostLines, mostQuantum}
 use Rattle.marker.specs.declared.Marker.{Marker}
 use Rattle.marker.specs.declared.MarkerRead.{MarkerRead}
 use Rattle.marker.specs.declared.MarkerRead.the-variants.{Whole, Refused}
-use Rattle.marker.specs.Marker.{markerOf, field, recordRead, markerBytes, counterOk, lineOk, markerChecked, thenChecked, markerRead, markerWritten, numberOf}
+use Rattle.marker.specs.Marker.{markerOf, field, recordRead, markerBytes, judge, judged, counterOk, lineOk, readNumber, markerRead, markerWritten, numberOf}
 
 -- a marker that is read is none that is refused
 pub whole-not-refused : {k : ℕ} {m : Marker} → Refused k ≡ Whole m → ⊥
@@ -138,19 +138,39 @@ record-accepted s e =
         go true h e = omega (arith, eqb-true (length over) 0 h)
         go false h e = absurd (omega arith)
 
+-- ---- a marker that is judged
+
+-- what passes is the marker itself, and its checks gave 0
+pub judge-passed : (number : ℕ) (m k : Marker) → judge number m ≡ Whole k → (number ≡ 0) × (m ≡ k)
+unfolding judge
+judge-passed number m k e = go (eqb number 0) refl e
+  where
+    go : (t : Bool) → eqb number 0 ≡ t → cond t (Whole m) (Refused number) ≡ Whole k → (number ≡ 0) × (m ≡ k)
+    go true q e = (eqb-true number 0 q, cc)
+    go false q e = absurd (whole-not-refused e)
+
+-- and what is refused is so by their number, which is not 0
+pub judge-refused : (number : ℕ) (m : Marker) (k : ℕ) → judge number m ≡ Refused k → (number ≡ k) × (k ≡ 0 → ⊥)
+unfolding judge
+judge-refused number m k e = go (eqb number 0) refl e
+  where
+    go : (t : Bool) → eqb number 0 ≡ t → cond t (Whole m) (Refused number) ≡ Refused k → (number ≡ k) × (k ≡ 0 → ⊥)
+    go true q e = absurd (whole-not-refused (sym e))
+    go false q e = let same : number ≡ k = cc in (same, λ z. eqb-false number 0 q (same ∙ z))
+
 -- ---- the standalone checks
 
 module _ (m : Marker) where
-  pub counter-bad : counterOk m ≡ false → Refused 5 ≡ markerChecked m
-  unfolding markerChecked
+  pub counter-bad : counterOk m ≡ false → Refused 5 ≡ judge (readNumber m) m
+  unfolding judge
   counter-bad e = simp e
 
-  pub line-bad : counterOk m ≡ true → mostLines ≤ m .line → Refused 3 ≡ markerChecked m
-  unfolding markerChecked
+  pub line-bad : counterOk m ≡ true → mostLines ≤ m .line → Refused 3 ≡ judge (readNumber m) m
+  unfolding judge
   line-bad e h = simp (e, le-ltb (m .line) mostLines h)
 
-  pub both-good : counterOk m ≡ true → m .line < mostLines → Whole m ≡ markerChecked m
-  unfolding markerChecked
+  pub both-good : counterOk m ≡ true → m .line < mostLines → Whole m ≡ judge (readNumber m) m
+  unfolding judge
   both-good e h = simp (e, lt-ltb (m .line) mostLines h)
 
 -- what the two checks make of a marker
@@ -158,8 +178,8 @@ abbrev decided : Marker → Bool → Bool → MarkerRead
 decided m counter line = cond (eqb (cond counter (cond line 0 3) 5) 0) (Whole m) (Refused (cond counter (cond line 0 3) 5))
 
 -- a marker that passes them comes back, and is in range
-pub passed : (m : Marker) → numberOf (markerChecked m) ≡ 0 → (markerChecked m ≡ Whole m) × (counterOk m ≡ true) × (lineOk m ≡ true)
-unfolding markerChecked
+pub passed : (m : Marker) → numberOf (judge (readNumber m) m) ≡ 0 → (judge (readNumber m) m ≡ Whole m) × (counterOk m ≡ true) × (lineOk m ≡ true)
+unfolding judge
 passed m e = go (counterOk m) refl (lineOk m) refl e
   where
     go : (a : Bool) → counterOk m ≡ a → (b : Bool) → lineOk m ≡ b → numberOf (decided m a b) ≡ 0
@@ -174,7 +194,7 @@ pub read-in-range : (s : List ℕ) (m : Marker) → markerRead s ≡ Whole m →
 unfolding markerRead
 read-in-range s m e = go (recordRead s) refl e
   where
-    go : (r : MarkerRead) → recordRead s ≡ r → thenChecked r ≡ Whole m → (m .line < mostLines) × (m .counter ≤ mostQuantum) × (m .round < 2 ^ 32)
+    go : (r : MarkerRead) → recordRead s ≡ r → judged readNumber r ≡ Whole m → (m .line < mostLines) × (m .counter ≤ mostQuantum) × (m .round < 2 ^ 32)
     go (Refused k) h e = absurd (whole-not-refused e)
     go (Whole n) h e =
         let p = passed n (ap numberOf e) in
@@ -204,8 +224,8 @@ record-small s =
     end true m = tt
     end false m = omega arith
 
-checked-small : (m : Marker) → SmallNumber (markerChecked m)
-unfolding markerChecked
+checked-small : (m : Marker) → SmallNumber (judge (readNumber m) m)
+unfolding judge
 checked-small m = go (counterOk m) (lineOk m)
   where
     go : (a b : Bool) → SmallNumber (decided m a b)
@@ -217,7 +237,7 @@ read-small : (s : List ℕ) → SmallNumber (markerRead s)
 unfolding markerRead
 read-small s = go (recordRead s) (record-small s)
   where
-    go : (r : MarkerRead) → SmallNumber r → SmallNumber (thenChecked r)
+    go : (r : MarkerRead) → SmallNumber r → SmallNumber (judged readNumber r)
     go (Whole m) h = checked-small m
     go (Refused k) h = h
 

@@ -15,7 +15,7 @@ use Rattle.plan.specs.Limits.{mostLines, mostQuantum}
 use Rattle.marker.specs.declared.Marker.{Marker}
 use Rattle.marker.specs.declared.MarkerRead.{MarkerRead}
 use Rattle.marker.specs.declared.MarkerRead.the-variants.{Whole, Refused}
-use Rattle.marker.specs.Marker.{numberOf, valuesOf, recordRead, markerBytes, counterOk, lineOk, thenChecked, markerRead, markerWritten}
+use Rattle.marker.specs.Marker.{numberOf, valuesOf, recordRead, markerBytes, counterOk, lineOk, judged, readNumber, markerRead, markerWritten}
 use Rattle.marker.proofs.Laws.{record-written, record-read, record-accepted, both-good, passed, whole-not-refused}
 
 -- A marker reads back as written: whatever the writer takes, the front of the output, as long as it answered, is read as the same
@@ -30,7 +30,7 @@ written-reads-back m out round e =
     let counter = check-passed (counterOk m) 5 _ (omega arith) (line .1) in
     let l = ltb-true (m .line) mostLines (line .0) in
     let c = from-range 1 (m .counter) mostQuantum (counter .0) in
-    let is : thenChecked (recordRead (markerBytes m)) ≡ Whole m = ap thenChecked (record-written m (omega arith) round (omega arith)) ∙ sym (both-good m (counter .0) l) in
+    let is : judged readNumber (recordRead (markerBytes m)) ≡ Whole m = ap (judged readNumber) (record-written m (omega arith) round (omega arith)) ∙ sym (both-good m (counter .0) l) in
     rw (w .1) (ap numberOf is, ap valuesOf is)
 
 -- Bytes that read are exactly those that would be written, of a marker that the writer takes.
@@ -39,13 +39,13 @@ pub read-is-written : (s : List ℕ) → Bytes s → numberOf (markerRead s) ≡
 unfolding markerRead
 read-is-written s bytes e = go (recordRead s) refl e
   where
-    go : (r : MarkerRead) → recordRead s ≡ r → numberOf (thenChecked r) ≡ 0
-        → (m : Marker) × (valuesOf (thenChecked (recordRead s)) ≡ m .line ∷ m .round ∷ m .counter ∷ []) × (s ≡ markerBytes m) × (lineOk m ≡ true) × (counterOk m ≡ true) × (m .round < 2 ^ 32)
+    go : (r : MarkerRead) → recordRead s ≡ r → numberOf (judged readNumber r) ≡ 0
+        → (m : Marker) × (valuesOf (judged readNumber (recordRead s)) ≡ m .line ∷ m .round ∷ m .counter ∷ []) × (s ≡ markerBytes m) × (lineOk m ≡ true) × (counterOk m ≡ true) × (m .round < 2 ^ 32)
     go (Refused k) h z = absurd (let w = record-accepted s (ap numberOf h ∙ z) in whole-not-refused (sym h ∙ w .1))
     go (Whole m) h z =
         let p = passed m z in
         let r = record-read s m bytes h in
-        (m, ap valuesOf (ap thenChecked h ∙ p .0), r .0, p .2, p .1, r .2)
+        (m, ap valuesOf (ap (judged readNumber) h ∙ p .0), r .0, p .2, p .1, r .2)
 
 -- No marker that the writer takes is longer than nine bytes: one for the line, five for the round, three for the counter.
 pub nine-bytes : (m : Marker) → lineOk m ≡ true → counterOk m ≡ true → m .round < 2 ^ 32 → length (markerBytes m) ≤ 9

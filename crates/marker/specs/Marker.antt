@@ -40,6 +40,15 @@ recordRead s =
 abbrev pub markerBytes : Marker → List ℕ
 markerBytes m = rowBytes (m .line ∷ m .round ∷ m .counter ∷ [])
 
+-- ---- a marker that is read, judged by a row of checks
+
+unfoldable pub judge : ℕ → Marker → MarkerRead
+judge number m = cond (eqb number 0) (Whole m) (Refused number)
+
+abbrev pub judged : (Marker → ℕ) → MarkerRead → MarkerRead
+judged number (Whole m) = judge (number m) m
+judged number (Refused k) = Refused k
+
 -- ---- the standalone calls, for any plan
 
 abbrev pub counterOk : Marker → Bool
@@ -52,15 +61,8 @@ lineOk m = ltb (m .line) mostLines
 abbrev pub readNumber : Marker → ℕ
 readNumber m = check (counterOk m) 5 (check (lineOk m) 3 0)
 
-unfoldable pub markerChecked : Marker → MarkerRead
-markerChecked m = cond (eqb (readNumber m) 0) (Whole m) (Refused (readNumber m))
-
-abbrev pub thenChecked : MarkerRead → MarkerRead
-thenChecked (Whole m) = markerChecked m
-thenChecked (Refused k) = Refused k
-
 unfoldable pub markerRead : List ℕ → MarkerRead
-markerRead s = thenChecked (recordRead s)
+markerRead s = judged readNumber (recordRead s)
 
 -- writing: 3, 5, 8
 unfoldable pub markerWritten : Marker → List ℕ → Outcome

@@ -6,7 +6,7 @@ use numbers::Written;
 use plan::Plan;
 ghost use mathlib.Core.Path.{_≡_};
 ghost use Rattle.numbers.specs.Writing.{written};
-ghost use Rattle.marker.specs.Marker.{markerBytes, recordRead, markerChecked, markerRead, markerWritten};
+ghost use Rattle.marker.specs.Marker.{markerBytes, recordRead, judge, readNumber, markerRead, markerWritten};
 
 pub struct Marker {
     pub line: u32,
@@ -55,7 +55,7 @@ pub fn write_record(m: Marker, out: &mut [u8]) -> Written
 
 // A marker whose numbers hold for some plan. Refused: 5, 3.
 fn checked(m: Marker) -> MarkerRead
-    ensures { λ r. ⌜ r ≡ markerChecked m ⌝ }
+    ensures { λ r. ⌜ r ≡ judge (readNumber m) m ⌝ }
 {
     if !numbers::in_range(1, m.counter, Plan::MOST_QUANTUM) {
         return MarkerRead::Refused(5);

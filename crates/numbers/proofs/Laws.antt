@@ -5,150 +5,167 @@ use Prim.Native.Nat.{ℕ, zero, suc, _+_, _-_, _*_, _/_, _%_, _^_, _≤_, _<_}
 use native.Mathlib.Numerals.{add-one}
 use native.Mathlib.Nat.{two-pow-succ, zero-add, add-zero}
 use lib.Pow.{pow-add, pow-mono}
+use native.Mathlib.Decide.{decLt}
 use native.Mathlib.Omega.{arith}
-use mathlib.Core.List.{List, [], _∷_, _++_, append-assoc}
+use mathlib.Core.List.{List, [], _∷_, _++_}
 use mathlib.Core.Bool.{Bool, true, false, cond}
 use lib.ListN.{length, getD, take, drop, set, length-drop, length-append, take-append-drop, drop-of-length-le}
-use lib.Seq.{take-all, drop-cons, take-take, take-append-seam, drop-append-seam, getD-drop, sets, sets-eq}
+use lib.Seq.{take-all, drop-cons, take-append-seam, drop-append-seam, getD-drop, sets, sets-eq}
 use lib.Dec.{ltb, leb, eqb}
-use borrow.Author.Tests.{leb-true, leb-false, ltb-true, ltb-false, eqb-true, eqb-false, lt-ltb, le-ltb, le-leb, lt-leb, ne-eqb}
+use borrow.Author.Tests.{leb-false, ltb-true, ltb-false, eqb-true, eqb-false, lt-ltb, le-ltb, le-leb, lt-leb, ne-eqb}
 use Rattle.numbers.specs.declared.Reading.{Reading}
 use Rattle.numbers.specs.declared.Reading.the-variants.{Number, Nothing}
 use Rattle.numbers.specs.declared.Written.the-variants.{Length, Refused}
-use Rattle.numbers.specs.Coding.{Bytes, joined, reading, below, readingOf, onward, coded, rowBytes}
+use Rattle.numbers.specs.Coding.{Bytes, joined, readingOf, onward, coded, rowBytes}
 use Rattle.numbers.specs.Writing.{numberOf, lengthOf, Outcome, written, outcome}
 
 -- a reading is not both a number and nothing
 pub never : {r : Reading} {v at : ℕ} → r ≡ Nothing → r ≡ Number v at → ⊥
 never e f = let z : _≡_ {A = ℕ} 0 1 = cc in omega arith
 
+-- ---- the reading, case by case
+
+module _ (w : ℕ) where
+  pub no-byte : (s : List ℕ) → length s ≡ 0 → readingOf w s ≡ Nothing
+  unfolding readingOf
+  no-byte [] h = refl
+  no-byte (b ∷ s) h = absurd (omega arith)
+
+  pub last-byte : (s : List ℕ) → 0 < length s → let b = getD s 0 0 in b < 128 → readingOf w s ≡ cond (ltb b (2 ^ w)) (Number b 1) Nothing
+  unfolding readingOf
+  last-byte [] some h = absurd (omega arith)
+  last-byte (b ∷ s) some h = simp (lt-ltb b 128 h)
+
+  pub no-room : (s : List ℕ) → 0 < length s → 128 ≤ getD s 0 0 → w ≤ 7 → readingOf w s ≡ Nothing
+  unfolding readingOf
+  no-room [] some h l = absurd (omega arith)
+  no-room (b ∷ s) some h l = simp (le-ltb b 128 h, le-leb w 7 l)
+
+  pub more-bytes : (s : List ℕ) → 0 < length s → let b = getD s 0 0 in 128 ≤ b → 7 < w
+      → readingOf w s ≡ joined (b % 128) (readingOf (w - 7) (drop 1 s))
+  unfolding readingOf
+  more-bytes [] some h l = absurd (omega arith)
+  more-bytes (b ∷ s) some h l = simp (le-ltb b 128 h, lt-leb w 7 l)
+
+-- seven bits less are one number in 128
+seven-less : (w : ℕ) → 7 < w → 2 ^ w ≡ 2 ^ (w - 7) * 128
+seven-less w h = let parts : w - 7 + 7 ≡ w = omega arith in rw parts at (pow-add 2 (w - 7) 7)
+
+-- a number of 128 or more is of more than seven bits
+past-seven : (w v : ℕ) → v < 2 ^ w → 128 ≤ v → 7 < w
+past-seven w v f h = go (decLt 7 w)
+  where
+    go : Dec (7 < w) → 7 < w
+    go (yes p) = p
+    go (no p) = let small : w ≤ 7 = omega arith in absurd (omega (arith, pow-mono small))
+
 -- ---- a reading as a relation, for inductions
 
-data Read : List ℕ → ℕ → ℕ → Type 0 where
-  single : {b : ℕ} {s : List ℕ} → b < 128 → Read (b ∷ s) b 1
-  longer : {b : ℕ} {s : List ℕ} {v at : ℕ} → 128 ≤ b → 0 < v → Read s v at → Read (b ∷ s) ((b - 128) + v * 128) (suc at)
+data Read : ℕ → List ℕ → ℕ → ℕ → Type 0 where
+  single : {w b : ℕ} {s : List ℕ} → b < 128 → b < 2 ^ w → Read w (b ∷ s) b 1
+  longer : {w b : ℕ} {s : List ℕ} {v at : ℕ} → 128 ≤ b → 7 < w → 0 < v → Read (w - 7) s v at → Read w (b ∷ s) (b % 128 + v * 128) (suc at)
 
-reads : {s : List ℕ} {v at : ℕ} → Read s v at → reading s ≡ Number v at
-unfolding reading
-reads (single h) = simp (lt-ltb _ _ h)
-reads (longer {b} {s} {v} {at} h p r) = simp (le-ltb _ _ h, reads r, ne-eqb v 0 (omega arith), add-one at)
+reads : {w : ℕ} {s : List ℕ} {v at : ℕ} → Read w s v at → readingOf w s ≡ Number v at
+unfolding readingOf
+reads (single h f) = simp (lt-ltb _ _ h, lt-ltb _ _ f)
+reads (longer {w} {b} {s} {v} {at} h l p r) = simp (le-ltb _ _ h, lt-leb _ _ l, reads r, ne-eqb v 0 (omega arith), add-one at)
 
-read : (s : List ℕ) {v at : ℕ} → reading s ≡ Number v at → Read s v at
-unfolding reading
-read [] e = absurd (never refl e)
-read (b ∷ s) {v} {at} e = go (ltb b 128) refl (reading s) refl (λ v at e. read s e) e
+read : (w : ℕ) (s : List ℕ) {v at : ℕ} → readingOf w s ≡ Number v at → Read w s v at
+unfolding readingOf
+read w [] e = absurd (never refl e)
+read w (b ∷ s) {v} {at} e = go (ltb b 128) refl (ltb b (2 ^ w)) refl (leb w 7) refl (readingOf (w - 7) s) refl (λ v at e. read (w - 7) s e) e
   where
-    done : (t : Bool) (high k : ℕ) → eqb high 0 ≡ t → 128 ≤ b → Read s high k → cond t Nothing (Number ((b - 128) + high * 128) (k + 1)) ≡ Number v at → Read (b ∷ s) v at
-    done true high k q h r e = absurd (never refl e)
-    done false high k q h r e =
-        let p : (b - 128) + high * 128 ≡ v = cc in
+    done : (t : Bool) (high k : ℕ) → eqb high 0 ≡ t → 128 ≤ b → 7 < w → Read (w - 7) s high k → cond t Nothing (Number (b % 128 + high * 128) (k + 1)) ≡ Number v at → Read w (b ∷ s) v at
+    done true high k q h l r e = absurd (never refl e)
+    done false high k q h l r e =
+        let p : b % 128 + high * 128 ≡ v = cc in
         let a : suc k ≡ at = sym (add-one k) ∙ cc in
         let pos : 0 < high = omega (arith, eqb-false high 0 q) in
-        rw (← p, ← a) (longer h pos r)
+        rw (← p, ← a) (longer h l pos r)
 
-    go : (t : Bool) → ltb b 128 ≡ t → (r : Reading) → reading s ≡ r → ((v at : ℕ) → reading s ≡ Number v at → Read s v at) → cond t (Number b 1) (joined (b - 128) r) ≡ Number v at → Read (b ∷ s) v at
-    go true q r f ih e =
+    go : (t : Bool) → ltb b 128 ≡ t → (u : Bool) → ltb b (2 ^ w) ≡ u → (n : Bool) → leb w 7 ≡ n → (r : Reading) → readingOf (w - 7) s ≡ r
+        → ((v at : ℕ) → readingOf (w - 7) s ≡ Number v at → Read (w - 7) s v at)
+        → cond t (cond u (Number b 1) Nothing) (cond n Nothing (joined (b % 128) r)) ≡ Number v at → Read w (b ∷ s) v at
+    go true q true f n l r g ih e =
         let p : b ≡ v = cc in
         let a : 1 ≡ at = cc in
-        rw (← p, ← a) (single (ltb-true b 128 q))
-    go false q Nothing f ih e = absurd (never refl e)
-    go false q (Number high k) f ih e = done (eqb high 0) high k refl (ltb-false b 128 q) (ih high k f) e
+        rw (← p, ← a) (single (ltb-true b 128 q) (ltb-true b (2 ^ w) f))
+    go true q false f n l r g ih e = absurd (never refl e)
+    go false q u f true l r g ih e = absurd (never refl e)
+    go false q u f false l Nothing g ih e = absurd (never refl e)
+    go false q u f false l (Number high k) g ih e = done (eqb high 0) high k refl (ltb-false b 128 q) (leb-false w 7 l) (ih high k g) e
 
-read-place : {s : List ℕ} {v at : ℕ} → Read s v at → (0 < at) × (at ≤ length s)
-read-place (single h) = (omega arith, omega arith)
-read-place (longer h p r) = let ih = read-place r in (omega arith, omega arith)
+read-fits : {w : ℕ} {s : List ℕ} {v at : ℕ} → Read w s v at → v < 2 ^ w
+read-fits (single h f) = f
+read-fits (longer {w} {b} h l p r) = let ih = read-fits r in omega (arith, seven-less w l)
 
-pub reading-place : (s : List ℕ) {v at : ℕ} → reading s ≡ Number v at → (0 < at) × (at ≤ length s)
-reading-place s e = read-place (read s e)
+read-place : {w : ℕ} {s : List ℕ} {v at : ℕ} → Read w s v at → (0 < at) × (at ≤ length s)
+read-place (single h f) = (omega arith, omega arith)
+read-place (longer h l p r) = let ih = read-place r in (omega arith, omega arith)
 
-read-alone : {s : List ℕ} {v at : ℕ} → Read s v at → (t : List ℕ) → Read (take at s ++ t) v at
-read-alone (single h) t = single h
-read-alone (longer h p r) t = longer h p (read-alone r t)
+read-alone : {w : ℕ} {s : List ℕ} {v at : ℕ} → Read w s v at → (t : List ℕ) → Read w (take at s ++ t) v at
+read-alone (single h f) t = single h f
+read-alone (longer h l p r) t = longer h l p (read-alone r t)
 
-read-coded : (w v : ℕ) → v < 2 ^ w → (t : List ℕ) → Read (coded w v ++ t) v (length (coded w v))
+read-size : {w : ℕ} {s : List ℕ} {v at : ℕ} → Read w s v at → 0 < w → 7 * at < w + 7
+read-size (single h f) pos = omega arith
+read-size (longer h l p r) pos = let ih = read-size r (omega arith) in omega arith
+
+-- what is written at one width reads at every width that the number is below
+read-coded : (k w v : ℕ) → v < 2 ^ k → v < 2 ^ w → (t : List ℕ) → Read w (coded k v ++ t) v (length (coded k v))
 unfolding coded
-read-coded zero v h t = let small : v < 128 = omega arith in single small
-read-coded (suc k) v h t = go (ltb v 128) refl (read-coded k (v / 128))
+read-coded zero w v h f t = let small : v < 128 = omega arith in single small f
+read-coded (suc k) w v h f t = go (ltb v 128) refl (read-coded k (w - 7) (v / 128))
   where
-    go : (b : Bool) → ltb v 128 ≡ b → (v / 128 < 2 ^ k → (t : List ℕ) → Read (coded k (v / 128) ++ t) (v / 128) (length (coded k (v / 128)))) → Read (cond b (v ∷ []) ((v % 128 + 128) ∷ coded k (v / 128)) ++ t) v (length (cond b (v ∷ []) ((v % 128 + 128) ∷ coded k (v / 128))))
-    go true q ih = single (ltb-true v 128 q)
+    go : (b : Bool) → ltb v 128 ≡ b → (v / 128 < 2 ^ k → v / 128 < 2 ^ (w - 7) → (t : List ℕ) → Read (w - 7) (coded k (v / 128) ++ t) (v / 128) (length (coded k (v / 128))))
+        → Read w (cond b (v ∷ []) ((v % 128 + 128) ∷ coded k (v / 128)) ++ t) v (length (cond b (v ∷ []) ((v % 128 + 128) ∷ coded k (v / 128))))
+    go true q ih = single (ltb-true v 128 q) f
     go false q ih =
         let big : 128 ≤ v = ltb-false v 128 q in
-        let fits : v / 128 < 2 ^ k = omega (arith, two-pow-succ k) in
+        let wide = past-seven w v f big in
+        let more : 128 ≤ v % 128 + 128 = omega arith in
+        let whole : (v % 128 + 128) % 128 + v / 128 * 128 ≡ v = omega arith in
         let pos : 0 < v / 128 = omega arith in
-        let low : 128 ≤ v % 128 + 128 = omega arith in
-        let whole : (v % 128 + 128 - 128) + v / 128 * 128 ≡ v = omega arith in
-        rw whole at (longer low pos (ih fits t))
+        rw whole at (longer more wide pos (ih (omega (arith, two-pow-succ k)) (omega (arith, seven-less w wide)) t))
 
-read-shortest : {s : List ℕ} {v at : ℕ} → Read s v at → (w : ℕ) → v < 2 ^ w → Bytes s → take at s ≡ coded w v
+read-shortest : {w : ℕ} {s : List ℕ} {v at : ℕ} → Read w s v at → (k : ℕ) → v < 2 ^ k → Bytes s → take at s ≡ coded k v
 unfolding coded
-read-shortest (single h) zero f bytes = refl
-read-shortest (single {b} h) (suc k) f bytes = simp (lt-ltb b 128 h)
-read-shortest (longer {b} {s} {v} {at} h p r) zero f bytes = absurd (omega arith)
-read-shortest (longer {b} {s} {v} {at} h p r) (suc k) f bytes =
+read-shortest (single h f) zero g bytes = refl
+read-shortest (single {w} {b} h f) (suc k) g bytes = simp (lt-ltb b 128 h)
+read-shortest (longer {w} {b} {s} {v} {at} h l p r) zero g bytes = absurd (omega arith)
+read-shortest (longer {w} {b} {s} {v} {at} h l p r) (suc k) g bytes =
     let byte : b < 256 = bytes 0 in
-    let big : 128 ≤ (b - 128) + v * 128 = omega arith in
-    let fits : v < 2 ^ k = omega (arith, two-pow-succ k) in
-    let high : ((b - 128) + v * 128) / 128 ≡ v = omega arith in
-    let low : ((b - 128) + v * 128) % 128 + 128 ≡ b = omega arith in
-    simp (le-ltb ((b - 128) + v * 128) 128 big, high, low) (ap (λ (l : List ℕ). b ∷ l) (read-shortest r k fits (λ i. bytes (suc i))))
-
-read-size : {s : List ℕ} {v at : ℕ} → Read s v at → (w : ℕ) → 0 < w → v < 2 ^ w → 7 * at < w + 7
-read-size (single h) w pos f = omega arith
-read-size (longer {b} {s} {v} {at} h p r) w pos f = go (leb w 7) refl (λ w p f. read-size r w p f)
-  where
-    go : (t : Bool) → leb w 7 ≡ t → ((w : ℕ) → 0 < w → v < 2 ^ w → 7 * at < w + 7) → 7 * suc at < w + 7
-    go true q ih = absurd (omega (arith, pow-mono (leb-true w 7 q)))
-    go false q ih =
-        let large : 7 < w = leb-false w 7 q in
-        let parts : w - 7 + 7 ≡ w = omega arith in
-        let both : 2 ^ w ≡ 2 ^ (w - 7) * 128 = rw parts at (pow-add 2 (w - 7) 7) in
-        let fits : v < 2 ^ (w - 7) = omega arith in
-        let ih7 = ih (w - 7) (omega arith) fits in
-        omega arith
+    let big : 128 ≤ b % 128 + v * 128 = omega arith in
+    let rest-fits : v < 2 ^ k = omega (arith, two-pow-succ k) in
+    let high : (b % 128 + v * 128) / 128 ≡ v = omega arith in
+    let low : (b % 128 + v * 128) % 128 + 128 ≡ b = omega arith in
+    simp (le-ltb (b % 128 + v * 128) 128 big, high, low) (ap (λ (l : List ℕ). b ∷ l) (read-shortest r k rest-fits (λ i. bytes (suc i))))
 
 -- ---- a number of width w
 
--- a bounded reading is the reading, and its number is within the bound
-pub kept : (m : ℕ) (r : Reading) {v at : ℕ} → below m r ≡ Number v at → (r ≡ Number v at) × (v < m)
-kept m Nothing e = absurd (never refl e)
-kept m (Number u k) {v} {at} e = go (ltb u m) refl e
-  where
-    go : (t : Bool) → ltb u m ≡ t → cond t (Number u k) Nothing ≡ Number v at → (Number u k ≡ Number v at) × (v < m)
-    go true q e = let same : u ≡ v = cc in (e, omega (arith, ltb-true u m q))
-    go false q e = absurd (never refl e)
-
-from-reading : (w : ℕ) (s : List ℕ) {v at : ℕ} → readingOf w s ≡ Number v at → (Read s v at) × (v < 2 ^ w)
-unfolding readingOf
-from-reading w s e = let k = kept (2 ^ w) (reading s) e in (read s (k .0), k .1)
-
-to-reading : (w : ℕ) {s : List ℕ} {v at : ℕ} → Read s v at → v < 2 ^ w → readingOf w s ≡ Number v at
-unfolding readingOf
-to-reading w {s} {v} {at} r f = rw (reads r) (simp (lt-ltb v (2 ^ w) f))
-
 -- what is written reads as the number, with the place after it, whatever follows
 pub round-trip : (w v : ℕ) (t : List ℕ) → v < 2 ^ w → readingOf w (coded w v ++ t) ≡ Number v (length (coded w v))
-round-trip w v t f = to-reading w (read-coded w v f t) f
+round-trip w v t f = reads (read-coded w w v f f t)
 
 module _ (w : ℕ) (s : List ℕ) {v at : ℕ} (e : readingOf w s ≡ Number v at) where
   pub fits : v < 2 ^ w
-  fits = from-reading w s e .1
+  fits = read-fits (read w s e)
 
   -- a number ends within the bytes, past the first
   pub place : (0 < at) × (at ≤ length s)
-  place = read-place (from-reading w s e .0)
+  place = read-place (read w s e)
 
   -- the bytes from the place on do not matter
   pub after : (t : List ℕ) → readingOf w (take at s ++ t) ≡ Number v at
-  after t = to-reading w (read-alone (from-reading w s e .0) t) fits
+  after t = reads (read-alone (read w s e) t)
 
   -- only what is written is read
   pub shortest : Bytes s → take at s ≡ coded w v
-  shortest bytes = read-shortest (from-reading w s e .0) w fits bytes
+  shortest bytes = read-shortest (read w s e) w fits bytes
 
   -- seven bits a byte
   pub size : 0 < w → 7 * at < w + 7
-  size pos = read-size (from-reading w s e .0) w pos fits
+  size pos = read-size (read w s e) pos
 
   -- the number's bytes, and those from its place on
   pub split : Bytes s → s ≡ coded w v ++ drop at s
@@ -156,28 +173,16 @@ module _ (w : ℕ) (s : List ℕ) {v at : ℕ} (e : readingOf w s ≡ Number v a
 
 -- a reading of the first k bytes, at seven bits a byte or more, is the reading of them all
 pub enough : (w k : ℕ) (s : List ℕ) → 0 < w → w ≤ 7 * k → readingOf w (take k s) ≡ readingOf w s
-enough w k s pos h = go (readingOf w s) refl (readingOf w (take k s)) refl
+unfolding readingOf
+enough w zero s pos h = absurd (omega arith)
+enough w (suc k) [] pos h = refl
+enough w (suc k) (b ∷ s) pos h = go (leb w 7) refl (enough (w - 7) k s)
   where
-    parts : take k s ++ drop k s ≡ s
-    parts = take-append-drop k s
-
-    -- what the first k bytes read as, all of them do
-    more : {v at : ℕ} → readingOf w (take k s) ≡ Number v at → readingOf w s ≡ Number v at
-    more {v} {at} e =
-        let whole : take at (take k s) ++ (drop at (take k s) ++ drop k s) ≡ s = rw (← append-assoc, take-append-drop) parts in
-        rw whole at (after w (take k s) e (drop at (take k s) ++ drop k s))
-
-    -- and back, since a number takes no more than k bytes
-    less : {v at : ℕ} → readingOf w s ≡ Number v at → readingOf w (take k s) ≡ Number v at
-    less {v} {at} e =
-        let short : at ≤ k = omega (arith, size w s e pos) in
-        let same : take at s ++ drop at (take k s) ≡ take k s = ap (λ (l : List ℕ). l ++ drop at (take k s)) (sym (take-take at k s short)) ∙ take-append-drop at (take k s) in
-        rw same at (after w s e (drop at (take k s)))
-
-    go : (a : Reading) → readingOf w s ≡ a → (b : Reading) → readingOf w (take k s) ≡ b → readingOf w (take k s) ≡ readingOf w s
-    go a p (Number v at) q = q ∙ sym (more q)
-    go (Number v at) p Nothing q = less p ∙ sym p
-    go Nothing p Nothing q = q ∙ sym p
+    go : (t : Bool) → leb w 7 ≡ t → (0 < w - 7 → w - 7 ≤ 7 * k → readingOf (w - 7) (take k s) ≡ readingOf (w - 7) s)
+        → cond (ltb b 128) (cond (ltb b (2 ^ w)) (Number b 1) Nothing) (cond t Nothing (joined (b % 128) (readingOf (w - 7) (take k s))))
+        ≡ cond (ltb b 128) (cond (ltb b (2 ^ w)) (Number b 1) Nothing) (cond t Nothing (joined (b % 128) (readingOf (w - 7) s)))
+    go true q ih = refl
+    go false q ih = let wide : 7 < w = leb-false w 7 q in rw (ih (omega arith) (omega arith))
 
 -- ---- a record: numbers one after another
 
@@ -227,7 +232,7 @@ coded-big (suc k) v f h =
 
 -- a byte for each seven bits begun of the number itself, whatever the width that it is written at
 pub coded-size-of : (w bits v : ℕ) → 0 < bits → v < 2 ^ w → v < 2 ^ bits → 7 * length (coded w v) < bits + 7
-coded-size-of w bits v pos f g = read-size (read-coded w v f []) bits pos g
+coded-size-of w bits v pos f g = read-size (read-coded w bits v f g []) pos
 
 pub coded-size : (w v : ℕ) → 0 < w → v < 2 ^ w → 7 * length (coded w v) < w + 7
 coded-size w v pos f = coded-size-of w w v pos f f

@@ -2,5 +2,4 @@ pub mod Checks
 pub mod Laws
 pub mod Promises
 pub mod Tight
-mod Upto
 mod Determined

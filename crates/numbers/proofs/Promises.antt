@@ -7,7 +7,7 @@ use lib.ListN.{length, take}
 use lib.Seq.{take-length}
 use Rattle.numbers.specs.declared.Reading.{Reading}
 use Rattle.numbers.specs.declared.Reading.the-variants.{Number, Nothing}
-use Rattle.numbers.specs.Coding.{Bytes, yields, reading, readingOf, coded}
+use Rattle.numbers.specs.Coding.{Bytes, yields, readingOf, coded}
 use Rattle.numbers.proofs.Laws as law
 
 -- what a reading yields says which it is
@@ -44,5 +44,5 @@ pub examples :
     (coded 32 127 ≡ 0x7F ∷ []) × (coded 32 128 ≡ 0x80 ∷ 0x01 ∷ []) × (yields (readingOf 32 (0x80 ∷ 0x00 ∷ [])) ≡ [])
     × (yields (readingOf 32 (0xFF ∷ 0xFF ∷ 0xFF ∷ 0xFF ∷ 0x0F ∷ [])) ≡ 4294967295 ∷ 5 ∷ [])
     × (yields (readingOf 32 (0xFF ∷ 0xFF ∷ 0xFF ∷ 0xFF ∷ 0x10 ∷ [])) ≡ [])
-unfolding coded readingOf reading
+unfolding coded readingOf
 examples = (refl, refl, refl, refl, refl)

@@ -4,7 +4,7 @@ use Prim.Native.Nat.{ℕ, zero, suc, _+_, _-_, _*_, _/_, _%_, _^_, _<_}
 use mathlib.Core.List.{List, [], _∷_, _++_}
 use mathlib.Core.Bool.{cond}
 use lib.ListN.{drop, getD}
-use lib.Dec.{ltb, eqb}
+use lib.Dec.{ltb, leb, eqb}
 use Rattle.numbers.specs.declared.Reading.{Reading}
 use Rattle.numbers.specs.declared.Reading.the-variants.{Number, Nothing}
 
@@ -22,19 +22,14 @@ abbrev pub joined : ℕ → Reading → Reading
 joined low Nothing = Nothing
 joined low (Number high at) = cond (eqb high 0) Nothing (Number (low + high * 128) (at + 1))
 
--- a number of any size at the front of the bytes
-unfoldable pub reading : List ℕ → Reading
-reading [] = Nothing
-reading (b ∷ s) = cond (ltb b 128) (Number b 1) (joined (b - 128) (reading s))
-
--- a reading, kept where its number is below m
-abbrev pub below : ℕ → Reading → Reading
-below m Nothing = Nothing
-below m (Number v at) = cond (ltb v m) (Number v at) Nothing
-
--- a number of width w at the front of the bytes
+-- a number of width w at the front of the bytes: each byte has seven bits of it, so the bytes after it read as a number of
+-- seven bits less
 unfoldable pub readingOf : ℕ → List ℕ → Reading
-readingOf w s = below (2 ^ w) (reading s)
+readingOf w [] = Nothing
+readingOf w (b ∷ s) =
+    cond (ltb b 128)
+    (cond (ltb b (2 ^ w)) (Number b 1) Nothing)
+    (cond (leb w 7) Nothing (joined (b % 128) (readingOf (w - 7) s)))
 
 -- Nothing ends the record's reading at once. After a number, the bytes from its place on are handed to the next reading.
 abbrev pub onward : {A : Type 0} → Reading → List ℕ → A → (ℕ → List ℕ → A) → A

@@ -1,11 +1,12 @@
 // Numbers on the wire: unsigned, low seven bits first, the top bit of a byte set when another follows, shortest form only,
 // below 2^32. Every record of the bundle is a row of them. The definitions are in specs/Coding.antt and specs/Writing.antt.
 ghost use mathlib.Core.Path.{_≡_};
-ghost use Prim.Native.Nat.{_+_, _≤_};
+ghost use Prim.Native.Nat.{_+_, _^_, _≤_, _<_};
 ghost use lib.ListN.{length};
 ghost use lib.Seq.{sets};
+ghost use lib.Dec.{ltb};
 ghost use Rattle.numbers.specs.Checks.{inRange};
-ghost use Rattle.numbers.specs.Coding.{reading, below, readingOf, coded, rowBytes};
+ghost use Rattle.numbers.specs.Coding.{readingOf, coded, rowBytes};
 ghost use Rattle.numbers.specs.Writing.{written};
 
 // What a reading yields: a number and the place after it, or nothing.
@@ -27,42 +28,47 @@ pub fn in_range(low: u32, x: u32, high: u32) -> bool
     (low <= x) & (x <= high)
 }
 
-// Reads a number of at most `most`. Each call hands what is above the low seven bits to the next, with the bound that is
-// left for it, so no more bytes are looked at than a number of that size can take.
-fn read_up_to(s: &[u8], most: u32) -> Reading
-    ensures { λ r. ⌜ r ≡ below (most + 1) (reading (now (s .entry))) ⌝ }
+// Whether v is below 2 ^ width.
+fn fits(v: u32, width: u32) -> bool
+    requires { ⌜ width < 64 ⌝ }
+    ensures { λ r. ⌜ r ≡ ltb v (2 ^ width) ⌝ }
+{
+    (v as u64) < (1u64 << width)
+}
+
+// Reads a number of that width. Each call hands what is above the low seven bits to the next, with the width that is left
+// for it, so no more bytes are looked at than a number of that width can take.
+fn read_of_width(s: &[u8], width: u32) -> Reading
+    requires { ⌜ width ≤ 32 ⌝ }
+    ensures { λ r. ⌜ r ≡ readingOf width (now (s .entry)) ⌝ }
 {
     if s.len() == 0 {
         return Reading::Nothing;
     }
     let b = s[0] as u32;
     if b < 128 {
-        if b <= most {
+        if fits(b, width) {
             return Reading::Number(b, 1);
         }
         return Reading::Nothing;
     }
-    if most < 128 {
+    if width <= 7 {
         return Reading::Nothing;
     }
-    let Reading::Number(high, at) = read_up_to(&s[1..], most / 128) else {
+    let Reading::Number(high, at) = read_of_width(&s[1..], width - 7) else {
         return Reading::Nothing;
     };
     if high == 0 {
         return Reading::Nothing;
     }
-    let v = (b - 128) + high * 128;
-    if v <= most {
-        return Reading::Number(v, at + 1);
-    }
-    Reading::Nothing
+    Reading::Number(b % 128 + high * 128, at + 1)
 }
 
 // Reads the number at the front of s.
 pub fn read_number(s: &[u8]) -> Reading
     ensures { λ r. ⌜ r ≡ readingOf 32 (now (s .entry)) ⌝ }
 {
-    read_up_to(s, 0xffff_ffff)
+    read_of_width(s, 32)
 }
 
 // How many bytes v is written in.

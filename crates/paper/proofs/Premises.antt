@@ -9,34 +9,35 @@ use lib.ListN.{length, replicate, take, drop}
 use borrow.Author.Tests.{ltb-true, leb-true}
 use Rattle.numbers.specs.declared.Written.the-variants as written
 use Rattle.numbers.specs.Checks.{allBelow}
-use Rattle.numbers.specs.Coding.{reading, readingOf, coded, rowBytes}
+use Rattle.numbers.specs.Coding.{readingOf, coded, rowBytes}
 use Rattle.numbers.specs.Writing.{outcome}
 use Rattle.plan.specs.Limits.{itemHead}
-use Rattle.plan.specs.Plan.{at, planOk, storeOk, chargeOf}
-use Rattle.marker.specs.Marker.{recordRead}
+use Rattle.plan.specs.Plan.{planOk, countersOk, storeOk, chargeOf}
+use Rattle.marker.specs.Marker.{recordRead, judge}
 use Rattle.theory.specs.Sending.{better, best, choose, charged, ends}
 use Rattle.theory.specs.Sending as S
 use Rattle.theory.specs.System.{State}
 use Rattle.theory.specs.System as T
 use Rattle.theory.specs.Words.{Yielded, NoneBehind, HasMarker, toCome}
 use Rattle.theory.specs.FarEnd as F
-use Rattle.report.specs.Report.{markerOn, markerChecked, ahead, reportOf}
-use Rattle.sender.specs.declared.Sent.the-variants as sent
-use Rattle.sender.specs.Sender.{senderOk, nextSender, sendNumber, sendOf, markerFrom}
-use Rattle.sender.specs.Sender as sender
+use Rattle.report.specs.Report.{markerOn, ahead, reportOf}
+use Rattle.sending.specs.declared.Sent.the-variants as sent
+use Rattle.sending.specs.Sender.{senderOk, openSender, nextSender, sendNumber, sendOf, markerFrom}
+use Rattle.sending.specs.Sender as sender
 use Rattle.ring.specs.Ring.{fromRing, intoRing, held, stored, frontOf}
 use Rattle.ring.specs.Queue.{Entry, itemsIn, queue}
-use Rattle.receiver.specs.declared.Taken.{Taken}
-use Rattle.receiver.specs.declared.Taken.the-variants as taken
-use Rattle.receiver.specs.Receiver.{firstFrom, lineAt, receiverOk, ringOf, withRing}
-use Rattle.receiver.specs.Receiver as receiver
-use Rattle.receiver.specs.Arriving.{arrival, dataArrival, markerArrival}
-use Rattle.receiver.specs.Taking.{lineStep, itemStep, roundNow, takeOf}
-use Rattle.bundle.specs.Worlds.{packet, World, Call, takes, landing, handedIn, reportedIn}
+use Rattle.receiving.specs.declared.Taken.{Taken}
+use Rattle.receiving.specs.declared.Taken.the-variants as taken
+use Rattle.receiving.specs.Receiver.{heldOf, firstFrom, lineAt, ringsOk, turnsOk, receiverOk, openReceiver, ringOf, withRing}
+use Rattle.receiving.specs.Receiver as receiver
+use Rattle.receiving.specs.Arriving.{arrival, arrivalOf}
+use Rattle.receiving.specs.Taking.{headOn, itemOn, roundNow, takeOf}
+use Rattle.bundle.specs.Events.{packet}
+use Rattle.bundle.specs.Worlds.{World, Call, takes, landing, handedIn, reportedIn}
 use Rattle.bundle.specs.Words.{Opens, bytesOf}
 use Rattle.bundle.specs.Demands as D
 use Rattle.bundle.specs.Words as words
-use Rattle.paper.proofs.Tests.{Enough, enoughTest, enough, stepsOf, Plain, beginning, nearTest, near, of-seen, on-lines, on-both}
+use Rattle.paper.proofs.Tests.{Enough, enoughTest, enough, plainSteps, Plain, beginning, nearTest, near, of-system, on-lines, on-both}
 use Rattle.paper.specs.Session.{session, numbered, room, someTakes, size, bytes, opened, calm, lossy, lossier, closing}
 
 -- ---- the words of the demands, of the session; and how they follow from what computes
@@ -47,18 +48,18 @@ after h = D.after session size bytes h
 abbrev theirs : S.Plan
 theirs = D.theirs session size bytes
 
-abbrev seen : List Call → State
-seen h = D.seen session size bytes h
+abbrev system : List Call → State
+system h = D.system session size bytes h
 
 abbrev Near : List Call → Type 0
 Near h = D.Near session size bytes h
 
 -- the system's state after the calls' own steps
 abbrev state : List Call → State
-state h = F.after theirs (stepsOf h)
+state h = F.after theirs (plainSteps h)
 
 abbrev nearly : List Call → Bool
-nearly h = nearTest theirs T.opened (stepsOf h)
+nearly h = nearTest theirs T.opened (plainSteps h)
 
 -- of `Reports`: after h a take answers that 500 bytes are missing on line 0, on which nothing was reported before
 abbrev answerIn : World → Taken
@@ -73,9 +74,9 @@ dueIn sent c s = F.bytesOf (toCome theirs (T.nth sent) c s (length sent))
 
 abbrev Orders : List Call → List Call → (ℕ → ℕ) → List (List ℕ) → Type 0
 Orders h₁ h₂ c handed =
-    Near (h₁ ++ h₂) × ((i : ℕ) → i < session .lines → Yielded (c i) (seen h₁ .line i .taken))
-    × ((i : ℕ) → i < session .lines → NoneBehind (c i) (seen (h₁ ++ h₂) .line i .lost)) × (handedIn (after h₁) h₂ ≡ handed)
-    × (dueIn (D.sentOf session size bytes (h₁ ++ h₂)) c (seen h₁) ≡ handed)
+    Near (h₁ ++ h₂) × ((i : ℕ) → i < session .lines → Yielded (c i) (system h₁ .line i .taken))
+    × ((i : ℕ) → i < session .lines → NoneBehind (c i) (system (h₁ ++ h₂) .line i .lost)) × (handedIn (after h₁) h₂ ≡ handed)
+    × (dueIn (D.sentOf session size bytes (h₁ ++ h₂)) c (system h₁) ≡ handed)
 
 module _ (h₁ h₂ : List Call) (c : ℕ → ℕ) (handed : List (List ℕ)) (plain : Plain opened (h₁ ++ h₂)) where
   orders : nearly (h₁ ++ h₂) ≡ true → Yielded (c 0) (state h₁ .line 0 .taken) → Yielded (c 1) (state h₁ .line 1 .taken)
@@ -87,7 +88,7 @@ module _ (h₁ h₂ : List Call) (c : ℕ → ℕ) (handed : List (List ℕ)) (p
         on-lines session size bytes h₁ first (λ s i. Yielded (c i) (s .line i .taken)) yielded₀ yielded₁,
         on-lines session size bytes (h₁ ++ h₂) plain (λ s i. NoneBehind (c i) (s .line i .lost)) behind₀ behind₁,
         out,
-        of-seen session size bytes h₁ first (λ s. dueIn (D.sentOf session size bytes (h₁ ++ h₂)) c s ≡ handed) due,
+        of-system session size bytes h₁ first (λ s. dueIn (D.sentOf session size bytes (h₁ ++ h₂)) c s ≡ handed) due,
       )
 
 -- of `Cleared`; and after the takes these kinds of item are queued on the two lines
@@ -96,7 +97,7 @@ kinds w = map (λ (e : Entry). e .kind) (words.queue w 0) ∷ map (λ (e : Entry
 
 abbrev Clears : List Call → List (List ℕ) → List (List ℕ) → Type 0
 Clears h outs queued =
-    ((i : ℕ) → i < session .lines → HasMarker (seen h .sent) (seen h .line i .store))
+    ((i : ℕ) → i < session .lines → HasMarker (system h .sent) (system h .line i .store))
     × Enough 2 (after h) outs × Near (h ++ map takes outs) × (kinds (after (h ++ map takes outs)) ≡ queued)
 
 module _ (h : List Call) (outs queued : List (List ℕ)) (plain : Plain opened (h ++ map takes outs)) where
@@ -112,7 +113,7 @@ module _ (h : List Call) (outs queued : List (List ℕ)) (plain : Plain opened (
 -- ---- the premises
 
 pub opens : Opens session size bytes
-unfolding planOk storeOk allBelow sender.openOf receiver.openOf
+unfolding planOk storeOk allBelow openSender openReceiver
 opens = record { sixteen = refl; sender = refl; receiver = refl; long = refl }
 
 -- the markers' labels: on both lines those after packet 5; on line 0 only, and line 1 stands at the opening
@@ -127,9 +128,9 @@ pub nothing-lost :
     Near (calm ++ someTakes 6) × D.NothingLost session size bytes calm × D.NothingUnderWay session size bytes calm × Enough 2 (after calm) (replicate 6 room)
     × (handedIn opened (calm ++ someTakes 6)
     ≡ numbered 1 400 ∷ numbered 2 500 ∷ numbered 3 300 ∷ numbered 4 450 ∷ numbered 5 200 ∷ numbered 6 500 ∷ numbered 7 500 ∷ numbered 8 100 ∷ [])
-unfolding allBelow reading readingOf coded rowBytes outcome planOk storeOk chargeOf recordRead better best choose charged T.at
-    markerOn markerChecked ahead reportOf senderOk sender.openOf nextSender sendNumber sendOf markerFrom fromRing intoRing held stored frontOf
-    firstFrom lineAt receiverOk receiver.openOf ringOf withRing arrival dataArrival markerArrival lineStep itemStep roundNow takeOf itemsIn queue
+unfolding allBelow readingOf coded rowBytes outcome planOk storeOk chargeOf recordRead better best choose charged T.at
+    markerOn judge ahead reportOf senderOk countersOk openSender nextSender sendNumber sendOf markerFrom fromRing intoRing held stored frontOf
+    firstFrom lineAt receiverOk ringsOk turnsOk openReceiver ringOf withRing arrival arrivalOf headOn itemOn roundNow takeOf itemsIn queue
 nothing-lost =
     let plain : Plain opened (calm ++ someTakes 6) = refl in (
       near session size bytes (calm ++ someTakes 6) plain refl,
@@ -142,9 +143,9 @@ nothing-lost =
 -- Packet 2 is lost. The third take, behind the arrival of packet 6, finds line 0's marker; when both lines have yielded their markers,
 -- packet 8 is to come.
 pub packet-lost : Near (lossy ++ someTakes 5) × Finds (take 18 lossy) × Orders (lossy ++ someTakes 4) (someTakes 1) bothMarked (numbered 8 100 ∷ [])
-unfolding allBelow reading readingOf coded rowBytes outcome planOk storeOk chargeOf recordRead better best choose charged T.at markerOn
-    markerChecked ahead reportOf senderOk sender.openOf nextSender sendNumber sendOf markerFrom fromRing intoRing held stored frontOf firstFrom
-    lineAt receiverOk receiver.openOf ringOf withRing arrival dataArrival markerArrival lineStep itemStep roundNow takeOf S.carried
+unfolding allBelow readingOf coded rowBytes outcome planOk storeOk chargeOf recordRead better best choose charged T.at markerOn
+    judge ahead reportOf senderOk countersOk openSender nextSender sendNumber sendOf markerFrom fromRing intoRing held stored frontOf firstFrom
+    lineAt receiverOk ringsOk turnsOk openReceiver ringOf withRing arrival arrivalOf headOn itemOn roundNow takeOf S.carried
 packet-lost =
     let plain : Plain opened (lossy ++ someTakes 5) = refl in (
       near session size bytes (lossy ++ someTakes 5) plain refl,
@@ -157,22 +158,23 @@ pub marker-lost :
     Near (lossier ++ someTakes 4) × Finds (take 18 lossier)
     × Orders (take 19 lossier) (drop 19 lossier ++ someTakes 4) firstMarked
     (numbered 4 450 ∷ numbered 5 200 ∷ numbered 6 500 ∷ numbered 7 500 ∷ numbered 8 100 ∷ [])
-unfolding allBelow reading readingOf coded rowBytes outcome planOk storeOk chargeOf recordRead better best choose charged T.at
-    markerOn markerChecked ahead reportOf senderOk sender.openOf nextSender sendNumber sendOf markerFrom fromRing intoRing held stored frontOf
-    firstFrom lineAt receiverOk receiver.openOf ringOf withRing arrival dataArrival markerArrival lineStep itemStep roundNow takeOf S.carried
+unfolding allBelow readingOf coded rowBytes outcome planOk storeOk chargeOf recordRead better best choose charged T.at
+    markerOn judge ahead reportOf senderOk countersOk openSender nextSender sendNumber sendOf markerFrom fromRing intoRing held stored frontOf
+    firstFrom lineAt receiverOk ringsOk turnsOk openReceiver ringOf withRing arrival arrivalOf headOn itemOn roundNow takeOf S.carried
 marker-lost =
     let plain : Plain opened (lossier ++ someTakes 4) = refl in (
       near session size bytes (lossier ++ someTakes 4) plain refl,
       (near session size bytes (take 19 lossier) (beginning (take 19 lossier) (drop 19 lossier ++ someTakes 4) opened plain) refl, refl, refl),
-      orders (take 19 lossier) (drop 19 lossier ++ someTakes 4) firstMarked _ plain refl (inl refl) refl (ltb-true 1 5 refl, tt) tt refl refl,
+      orders (take 19 lossier) (drop 19 lossier ++ someTakes 4) firstMarked
+          (numbered 4 450 ∷ numbered 5 200 ∷ numbered 6 500 ∷ numbered 7 500 ∷ numbered 8 100 ∷ []) plain refl (inl refl) refl (ltb-true 1 5 refl, tt) tt refl refl,
     )
 
 -- Markers are sent after the last packet: as many takes as items held leave no packet, only line 0's last marker.
 pub all-marked :
     Clears (lossy ++ closing) (replicate 7 room) ((1 ∷ []) ∷ [] ∷ []) × Clears (lossier ++ closing) (replicate 6 room) ((1 ∷ []) ∷ [] ∷ [])
-unfolding allBelow reading readingOf coded rowBytes outcome planOk storeOk chargeOf recordRead better best choose charged T.at markerOn
-    markerChecked ahead reportOf senderOk sender.openOf nextSender sendNumber sendOf markerFrom fromRing intoRing held stored frontOf firstFrom
-    lineAt receiverOk receiver.openOf ringOf withRing arrival dataArrival markerArrival lineStep itemStep roundNow takeOf itemsIn queue
+unfolding allBelow readingOf coded rowBytes outcome planOk storeOk chargeOf recordRead better best choose charged T.at markerOn
+    judge ahead reportOf senderOk countersOk openSender nextSender sendNumber sendOf markerFrom fromRing intoRing held stored frontOf firstFrom
+    lineAt receiverOk ringsOk turnsOk openReceiver ringOf withRing arrival arrivalOf headOn itemOn roundNow takeOf itemsIn queue
 all-marked = (
   clears (lossy ++ closing) (replicate 7 room) _ refl (inl refl) (inr (inl refl)) refl refl refl,
   clears (lossier ++ closing) (replicate 6 room) _ refl (inl refl) (inl refl) refl refl refl,
@@ -182,16 +184,17 @@ all-marked = (
 pub round-ends :
     (1 ≤ length (numbered 5 200)) × (length (numbered 5 200) ≤ session .max)
     × (ends theirs (D.carried session size bytes (take 8 calm)) (length (numbered 5 200)) ≡ true)
-unfolding allBelow planOk chargeOf better best choose charged S.carried ends senderOk sender.openOf nextSender sendNumber sendOf
+unfolding allBelow planOk storeOk chargeOf better best choose charged S.carried ends ahead senderOk countersOk openSender nextSender sendNumber sendOf
+    stored intoRing firstFrom lineAt receiverOk ringsOk turnsOk openReceiver ringOf withRing arrival arrivalOf
 round-ends = (leb-true _ _ refl, leb-true _ _ refl, refl)
 
 -- Of `OnlyForCause`: there is room for a marker, for the first packet, once sent, in its line's ring, and for the largest in a take's output.
 pub room-enough :
-    (length (sender.markerOn (after (take 9 calm) .sender) 0) ≤ length room)
+    (length (sender.lineMarker (after (take 9 calm) .sender) 0) ≤ length room)
     × (Near (take 1 calm) × (after (take 1 calm) .road 0 ≡ packet (numbered 1 400) ∷ [])
-    × (itemHead + length (bytesOf (packet (numbered 1 400))) ≤ size - at (after (take 1 calm) .receiver .used) 0))
+    × (itemHead + length (bytesOf (packet (numbered 1 400))) ≤ size - heldOf (after (take 1 calm) .receiver .rings) 0 .used))
     × (session .max ≤ length room)
-unfolding allBelow coded rowBytes planOk storeOk chargeOf senderOk sender.openOf nextSender sendNumber sendOf receiver.openOf
+unfolding allBelow coded rowBytes planOk storeOk chargeOf senderOk countersOk openSender nextSender sendNumber sendOf openReceiver
 room-enough = (
   leb-true _ _ refl,
   (near session size bytes (take 1 calm) refl refl, refl, leb-true _ _ refl),
@@ -201,13 +204,13 @@ room-enough = (
 -- Of `ValidStaysValid`, and of `RefusedChangesNothing`: a packet of no bytes, a marker with no room, a packet on a line that is not there, and a
 -- take with no room are refused.
 pub valid-opened : (senderOk (opened .sender) ≡ true) × (receiverOk (opened .receiver) ≡ true)
-unfolding allBelow planOk storeOk ahead senderOk sender.openOf firstFrom lineAt receiverOk receiver.openOf
+unfolding allBelow planOk storeOk ahead senderOk countersOk openSender firstFrom lineAt receiverOk ringsOk turnsOk openReceiver
 valid-opened = (refl, refl)
 
 pub some-refused :
     (sendOf (opened .sender) 0 .answer ≡ sent.Refused 4) × (markerFrom (opened .sender) 0 [] .answer ≡ written.Refused 8)
     × (landing (opened .receiver) bytes 2 (packet (numbered 1 400)) .arrived .number ≡ 3)
     × (takeOf (after (take 2 calm) .receiver) (after (take 2 calm) .store) [] .result .answer ≡ taken.Refused 8)
-unfolding allBelow coded rowBytes outcome planOk storeOk chargeOf ahead senderOk sender.openOf sendNumber sendOf markerFrom fromRing
-    intoRing held stored frontOf firstFrom lineAt receiverOk receiver.openOf ringOf withRing arrival dataArrival lineStep itemStep takeOf
+unfolding allBelow coded rowBytes outcome planOk storeOk chargeOf ahead senderOk countersOk openSender sendNumber sendOf markerFrom fromRing
+    intoRing held stored frontOf firstFrom lineAt receiverOk ringsOk turnsOk openReceiver ringOf withRing arrival arrivalOf headOn itemOn takeOf
 some-refused = (refl, refl, refl, refl)

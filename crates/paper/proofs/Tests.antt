@@ -7,6 +7,7 @@ use mathlib.Core.Path.{_≡_, refl, sym, ap, _∙_, subst}
 use lib.Dec.{ltb, eqb}
 use lib.ListN.{length, getD, drop}
 use borrow.Author.Tests.{ltb-true, eqb-true}
+use Rattle.numbers.specs.Wrap.{half}
 use Rattle.numbers.proofs.Checks.{never, both}
 use Rattle.plan.specs.declared.Plan.{Plan}
 use Rattle.theory.specs.Sending as S
@@ -14,13 +15,13 @@ use Rattle.theory.specs.System.{Item, Line, State, Step, current, step}
 use Rattle.theory.specs.System as T
 use Rattle.theory.specs.FarEnd.{front, nearHead, nearStep}
 use Rattle.theory.specs.FarEnd as F
-use Rattle.receiver.specs.declared.Taken.{Taken}
-use Rattle.receiver.specs.declared.Taken.the-variants as taken
-use Rattle.receiver.specs.Taking.{takeOf}
-use Rattle.bundle.specs.Worlds.{World, Call, sends, asks, arrives, loses, takes, call}
-use Rattle.bundle.specs.Log.{logged, log}
+use Rattle.receiving.specs.declared.Taken.{Taken}
+use Rattle.receiving.specs.declared.Taken.the-variants as taken
+use Rattle.receiving.specs.Taking.{takeOf}
+use Rattle.bundle.specs.Worlds.{World, Call, sends, asks, arrives, loses, takes, seen, call}
+use Rattle.bundle.specs.Log.{stepsOf, log}
 use Rattle.bundle.specs.Words.{Roomy, heldBelow}
-use Rattle.bundle.specs.Demands.{opened, theirs, seen, Near}
+use Rattle.bundle.specs.Demands.{opened, theirs, system, Near}
 
 -- ---- as many outputs as items held on n lines, and room in each
 
@@ -63,18 +64,18 @@ stepOf (takes out) = T.take
 
 abbrev pub eachLogged : World → List Call → List (List Step)
 eachLogged w [] = []
-eachLogged w (e ∷ h) = logged w e ∷ eachLogged (call w e) h
+eachLogged w (e ∷ h) = stepsOf (seen w e) ∷ eachLogged (call w e) h
 
 abbrev pub Plain : World → List Call → Type 0
 Plain w h = eachLogged w h ≡ map (λ (e : Call). stepOf e ∷ []) h
 
-abbrev pub stepsOf : List Call → List Step
-stepsOf h = map stepOf h
+abbrev pub plainSteps : List Call → List Step
+plainSteps h = map stepOf h
 
 first-step : {steps others : List Step} {each more : List (List Step)} → steps ∷ each ≡ others ∷ more → steps ≡ others
 first-step e = ap (λ l. getD l 0 []) e
 
-log-is : (h : List Call) (w : World) → Plain w h → log w h ≡ stepsOf h
+log-is : (h : List Call) (w : World) → Plain w h → log w h ≡ plainSteps h
 log-is [] w plain = refl
 log-is (e ∷ h) w plain =
     ap (λ (steps : List Step). steps ++ log (call w e) h) (first-step plain) ∙ ap (λ (steps : List Step). stepOf e ∷ steps) (log-is h (call w e) (ap (drop 1) plain))
@@ -91,7 +92,7 @@ beginning (e ∷ h) g w plain =
 abbrev headTest : S.Plan → ℕ → Line → List Item → Bool
 headTest p i l [] = true
 headTest p i l (T.packet k x ∷ rest) = true
-headTest p i l (T.marker k m ∷ rest) = ltb (m / p .quantum i) (l .position / p .quantum i + 2147483648)
+headTest p i l (T.marker k m ∷ rest) = ltb (m / p .quantum i) (l .position / p .quantum i + half)
 
 abbrev stepTest : S.Plan → State → Step → Bool
 stepTest p s (T.send x) = true
@@ -132,14 +133,14 @@ on-both P first second (suc (suc i)) h = absurd (omega arith)
 -- ---- of the log
 
 module _ (p : Plan) (size : ℕ) (store : List ℕ) (h : List Call) (plain : Plain (opened p size store) h) where
-  pub near : nearTest (theirs p size store) T.opened (stepsOf h) ≡ true → Near p size store h
+  pub near : nearTest (theirs p size store) T.opened (plainSteps h) ≡ true → Near p size store h
   near passed =
       subst (F.Near (theirs p size store) T.opened) (sym (log-is h (opened p size store) plain))
-      (steps-near (theirs p size store) (stepsOf h) T.opened passed)
+      (steps-near (theirs p size store) (plainSteps h) T.opened passed)
 
-  pub of-seen : (P : State → Type 0) → P (F.after (theirs p size store) (stepsOf h)) → P (seen p size store h)
-  of-seen P = subst (λ (steps : List Step). P (F.after (theirs p size store) steps)) (sym (log-is h (opened p size store) plain))
+  pub of-system : (P : State → Type 0) → P (F.after (theirs p size store) (plainSteps h)) → P (system p size store h)
+  of-system P = subst (λ (steps : List Step). P (F.after (theirs p size store) steps)) (sym (log-is h (opened p size store) plain))
 
-  pub on-lines : (P : State → ℕ → Type 0) → P (F.after (theirs p size store) (stepsOf h)) 0 → P (F.after (theirs p size store) (stepsOf h)) 1
-      → (i : ℕ) → i < 2 → P (seen p size store h) i
-  on-lines P first second = of-seen (λ (s : State). (i : ℕ) → i < 2 → P s i) (on-both (P (F.after (theirs p size store) (stepsOf h))) first second)
+  pub on-lines : (P : State → ℕ → Type 0) → P (F.after (theirs p size store) (plainSteps h)) 0 → P (F.after (theirs p size store) (plainSteps h)) 1
+      → (i : ℕ) → i < 2 → P (system p size store h) i
+  on-lines P first second = of-system (λ (s : State). (i : ℕ) → i < 2 → P s i) (on-both (P (F.after (theirs p size store) (plainSteps h))) first second)

@@ -9,36 +9,36 @@ use lib.ListN.{length, getD, take, drop}
 use borrow.Author.Tests.{leb-true, eq-eqb, lt-ltb, le-leb}
 use Rattle.numbers.specs.declared.Written.the-variants as written
 use Rattle.numbers.specs.Checks.{allBelow}
-use Rattle.numbers.specs.Coding.{reading, readingOf, coded, rowBytes}
+use Rattle.numbers.specs.Coding.{readingOf, coded, rowBytes}
 use Rattle.numbers.specs.Writing.{outcome}
 use Rattle.numbers.specs.Writing as writing
 use Rattle.numbers.proofs.Checks.{never}
 use Rattle.plan.specs.declared.Plan.{Plan}
-use Rattle.plan.specs.Plan.{at, quantum, planOk, storeOk, chargeOf}
-use Rattle.marker.specs.Marker.{recordRead}
+use Rattle.plan.specs.Plan.{at, quantum, planOk, countersOk, storeOk, chargeOf}
+use Rattle.marker.specs.Marker.{recordRead, judge}
 use Rattle.theory.specs.Sending.{better, best, choose, charged, ends, ended, dueAfter}
 use Rattle.theory.specs.Sending as S
 use Rattle.theory.specs.Demands.{Lowest}
 use Rattle.theory.specs.System as T
 use Rattle.theory.specs.Words.{Beginning, total, before, Yielded, NoneBehind, toCome}
 use Rattle.theory.specs.FarEnd as F
-use Rattle.report.specs.Report.{markerOn, markerChecked, ahead, reportOf}
-use Rattle.sender.specs.declared.Sender.{Sender}
-use Rattle.sender.specs.declared.Sent.{Sent}
-use Rattle.sender.specs.declared.Sent.the-variants as sent
-use Rattle.sender.specs.Sender.{senderOk, nextSender, sendNumber, sendOf, markerFrom}
-use Rattle.sender.specs.Sender as sender
+use Rattle.report.specs.Report.{markerOn, ahead, reportOf}
+use Rattle.sending.specs.declared.Sender.{Sender}
+use Rattle.sending.specs.declared.Sent.{Sent}
+use Rattle.sending.specs.declared.Sent.the-variants as sent
+use Rattle.sending.specs.Sender.{senderOk, openSender, nextSender, sendNumber, sendOf, markerFrom}
+use Rattle.sending.specs.Sender as sender
 use Rattle.ring.specs.Ring.{fromRing, intoRing, held, stored, frontOf}
 use Rattle.ring.specs.Queue.{itemsIn}
 use Rattle.ring.specs.Queue as ring
-use Rattle.receiver.specs.declared.Taken.{Taken}
-use Rattle.receiver.specs.declared.Taken.the-variants as taken
-use Rattle.receiver.specs.Receiver.{firstFrom, lineAt, receiverOk, ringOf, withRing}
-use Rattle.receiver.specs.Receiver as receiver
-use Rattle.receiver.specs.Arriving.{notStored, arrival, dataArrival, markerArrival}
-use Rattle.receiver.specs.Taking.{lineStep, itemStep, roundNow, takeOf}
+use Rattle.receiving.specs.declared.Taken.{Taken}
+use Rattle.receiving.specs.declared.Taken.the-variants as taken
+use Rattle.receiving.specs.Receiver.{firstFrom, lineAt, ringsOk, turnsOk, receiverOk, openReceiver, ringOf, withRing}
+use Rattle.receiving.specs.Receiver as receiver
+use Rattle.receiving.specs.Arriving.{notStored, arrival, arrivalOf}
+use Rattle.receiving.specs.Taking.{headOn, itemOn, roundNow, takeOf}
 use Rattle.bundle.specs.Worlds.{World, Call, sends, handedIn, reportedIn}
-use Rattle.bundle.specs.Words.{Names, queue, NoPacket}
+use Rattle.bundle.specs.Words.{andThen, Names, queue, NoPacket}
 use Rattle.bundle.specs.Log.{parcelOf, entryOf}
 use Rattle.bundle.specs.Demands as D
 use Rattle.paper.specs.Session.{session, numbered, room, size, bytes, opened, calm, lossy, closing}
@@ -72,8 +72,8 @@ after h = D.after session size bytes h
 abbrev logOf : List Call → List T.Step
 logOf h = D.logOf session size bytes h
 
-abbrev seen : List Call → T.State
-seen h = D.seen session size bytes h
+abbrev system : List Call → T.State
+system h = D.system session size bytes h
 
 abbrev sentOf : List Call → List (List ℕ)
 sentOf h = D.sentOf session size bytes h
@@ -81,15 +81,15 @@ sentOf h = D.sentOf session size bytes h
 abbrev carried : List Call → ℕ → ℕ
 carried h = D.carried session size bytes h
 
-abbrev endedBy : List Call → ℕ
-endedBy h = D.endedBy session size bytes h
+abbrev roundsEnded : List Call → ℕ
+roundsEnded h = D.roundsEnded session size bytes h
 
 -- four packets are sent, and the fifth, which ends the round
 abbrev four : List Call
 four = take 8 calm
 
 abbrev five : List Call
-five = D.andThen session size bytes four (sends (numbered 5 200))
+five = andThen four (sends (numbered 5 200))
 
 -- packet 2 is lost: line 0's marker, labelled 5, is in front, and it is taken
 abbrev marked : List Call
@@ -107,13 +107,13 @@ RuleOf answer =
 
 -- `SameRule`, of what the take that finds the marker is answered
 abbrev SameRuleOf : Taken → Type 0
-SameRuleOf answer = (i : ℕ) × Lowest theirs (T.positions (seen marked)) i × Names i answer
+SameRuleOf answer = (i : ℕ) × Lowest theirs (T.positions (system marked)) i × Names i answer
 
 -- `Reports`, of what the marker reports missing
 abbrev ReportsOf : ℕ → Type 0
 ReportsOf m =
-    (k position : ℕ) × (rest : List T.Item) × (seen marked .line 0 .store ≡ T.marker k position ∷ rest)
-    × (m + reportedIn 0 opened marked ≡ total (before theirs 0 k) (seen marked .line 0 .lost))
+    (k position : ℕ) × (rest : List T.Item) × (system marked .line 0 .store ≡ T.marker k position ∷ rest)
+    × (m + reportedIn 0 opened marked ≡ total (before theirs 0 k) (system marked .line 0 .lost))
 
 -- `Order`, of what is handed out from there on; line 1, which loses nothing, stands from the opening
 abbrev labels : ℕ → ℕ
@@ -122,7 +122,7 @@ labels i = cond (eqb i 0) 5 0
 abbrev OrderOf : List (List ℕ) → Type 0
 OrderOf handed =
     let sent = sentOf (passed ++ drop 19 lossy) in
-    Beginning handed (F.bytesOf (toCome theirs (T.nth sent) labels (seen passed) (length sent)))
+    Beginning handed (F.bytesOf (toCome theirs (T.nth sent) labels (system passed) (length sent)))
 
 -- With the answer that the ends give, each is what its promise concludes.
 pub record Concluded : Type 0 where
@@ -132,8 +132,8 @@ pub record Concluded : Type 0 where
   pub reports : D.Reports session size bytes → D.Near session size bytes passed
       → (m : ℕ) → takeOf (after marked .receiver) (after marked .store) room .result .answer ≡ taken.Missing 0 m → ReportsOf m
   pub order : D.Order session size bytes → D.Near session size bytes lossy
-      → ((i : ℕ) → i < session .lines → Yielded (labels i) (seen passed .line i .taken))
-      → ((i : ℕ) → i < session .lines → NoneBehind (labels i) (seen lossy .line i .lost)) → OrderOf (handedIn (after passed) (drop 19 lossy))
+      → ((i : ℕ) → i < session .lines → Yielded (labels i) (system passed .line i .taken))
+      → ((i : ℕ) → i < session .lines → NoneBehind (labels i) (system lossy .line i .lost)) → OrderOf (handedIn (after passed) (drop 19 lossy))
 
 pub concluded : Concluded
 concluded = record {
@@ -149,8 +149,8 @@ pub record Wrong : Type 0 where
   -- `LogShown`: a send that the log forgets; a packet handed out damaged, or gone from the road, or from the queue
   pub log-sent : sentOf (take 1 calm) ≡ T.packets [] → ⊥
   pub log-handed : numbered 9 400 ∷ [] ≡ F.bytesOf (T.outs theirs T.opened (logOf (take 15 calm))) → ⊥
-  pub log-road : [] ≡ map (parcelOf kept 0) (seen (take 1 calm) .line 0 .road) → ⊥
-  pub log-queued : [] ≡ map (entryOf kept 0) (seen (take 2 calm) .line 0 .store) → ⊥
+  pub log-road : [] ≡ map (parcelOf kept 0) (system (take 1 calm) .line 0 .road) → ⊥
+  pub log-queued : [] ≡ map (entryOf kept 0) (system (take 2 calm) .line 0 .store) → ⊥
   -- `ChargedBytes`: a byte more
   pub charged-more : theirs .charge 0 400 + 1 ≡ 400 → ⊥
   -- `Rule`: the other line; no marker due; a refusal
@@ -158,8 +158,8 @@ pub record Wrong : Type 0 where
   pub rule-undue : RuleOf (sent.Went 1 false) → ⊥
   pub rule-refused : RuleOf (sent.Refused 4) → ⊥
   -- `Share`: a round more than has ended; nothing above the quanta
-  pub share-more : (endedBy five + 1) * quantum session 0 ≤ carried five 0 → ⊥
-  pub share-less : carried five 0 < endedBy five * quantum session 0 → ⊥
+  pub share-more : (roundsEnded five + 1) * quantum session 0 ≤ carried five 0 → ⊥
+  pub share-less : carried five 0 < roundsEnded five * quantum session 0 → ⊥
   -- `SameRule`: the other line waits, or hands out; the marker is behind; a refusal
   pub same-rule-waits : SameRuleOf (taken.Waiting 1) → ⊥
   pub same-rule-other : SameRuleOf (taken.Data 1 450) → ⊥
@@ -180,11 +180,11 @@ pub record Wrong : Type 0 where
   -- `Cleared`: takes that wait, and leave all that is queued
   pub cleared-waits : NoPacket (queue (after (lossy ++ closing)) 0) → ⊥
   -- `Valid`: ends that are closed
-  pub valid-sender : senderOk sender.closed ≡ true → ⊥
-  pub valid-receiver : receiverOk receiver.closed ≡ true → ⊥
+  pub valid-sender : senderOk sender.closedSender ≡ true → ⊥
+  pub valid-receiver : receiverOk receiver.closedReceiver ≡ true → ⊥
   -- `OnlyForCause`: a marker refused, or cut short; a packet not stored; a take refused
   pub ask-refused : (n : ℕ) → written.Refused 8 ≡ written.Length n → ⊥
-  pub ask-short : written.Length 3 ≡ written.Length (length (sender.markerOn (after five .sender) 0)) → ⊥
+  pub ask-short : written.Length 3 ≡ written.Length (length (sender.lineMarker (after five .sender) 0)) → ⊥
   pub land-refused : notStored (after (take 1 calm) .receiver) 7 .number ≡ 0 → ⊥
   pub take-refused : ((k : ℕ) → taken.Refused 8 ≡ taken.Refused k → ⊥) → ⊥
   -- `RefusedChangesNothing`: a refused send that charges its line; a refused take that writes over its output
@@ -197,19 +197,19 @@ label [] = 0
 label (T.packet k x ∷ rest) = k
 label (T.marker k m ∷ rest) = k
 
-not-reported : (m : ℕ) → label (seen marked .line 0 .store) ≡ 5
-    → eqb (m + reportedIn 0 opened marked) (total (before theirs 0 5) (seen marked .line 0 .lost)) ≡ false → ReportsOf m → ⊥
+not-reported : (m : ℕ) → label (system marked .line 0 .store) ≡ 5
+    → eqb (m + reportedIn 0 opened marked) (total (before theirs 0 5) (system marked .line 0 .lost)) ≡ false → ReportsOf m → ⊥
 not-reported m is-five test r =
     let k : r .0 ≡ 5 = sym (ap label (r .3)) ∙ is-five in
-    differ _ _ test (subst (λ (k : ℕ). m + reportedIn 0 opened marked ≡ total (before theirs 0 k) (seen marked .line 0 .lost)) k (r .4))
+    differ _ _ test (subst (λ (k : ℕ). m + reportedIn 0 opened marked ≡ total (before theirs 0 k) (system marked .line 0 .lost)) k (r .4))
 
 pub wrong : Wrong
-unfolding allBelow reading readingOf coded rowBytes outcome planOk storeOk chargeOf recordRead better best choose charged S.carried ends ended
-    dueAfter T.at markerOn markerChecked ahead reportOf senderOk sender.openOf nextSender sendNumber sendOf markerFrom fromRing intoRing held stored
-    frontOf itemsIn ring.queue firstFrom lineAt receiverOk receiver.openOf ringOf withRing arrival dataArrival markerArrival lineStep itemStep
+unfolding allBelow readingOf coded rowBytes outcome planOk storeOk chargeOf recordRead better best choose charged S.carried ends ended
+    dueAfter T.at markerOn judge ahead reportOf senderOk countersOk openSender nextSender sendNumber sendOf markerFrom fromRing intoRing held stored
+    frontOf itemsIn ring.queue firstFrom lineAt receiverOk ringsOk turnsOk openReceiver ringOf withRing arrival arrivalOf headOn itemOn
     roundNow takeOf
 wrong =
-    let other : Lowest theirs (T.positions (seen marked)) 1 → ⊥ = λ low. above 1 0 refl (low .on-tie 0 (omega arith) refl) in
+    let other : Lowest theirs (T.positions (system marked)) 1 → ⊥ = λ low. above 1 0 refl (low .on-tie 0 (omega arith) refl) in
     record {
       log-sent = λ e. differ _ _ refl (ap length e);
       log-handed = λ e. differ _ _ refl (ap (named 0) e);
@@ -217,14 +217,14 @@ wrong =
       log-queued = λ e. differ _ _ refl (ap length e);
       charged-more = differ _ _ refl;
       rule-other = λ r.
-          let line : r .0 ≡ 0 = sym (ap (λ (s : Sent). getD (sender.valuesOf s) 0 0) (r .2)) in
+          let line : r .0 ≡ 0 = sym (ap (λ (s : Sent). getD (sender.sentValues s) 0 0) (r .2)) in
           above _ _ refl (subst (Lowest theirs (carried four)) line (r .1) .lowest 1 (omega arith));
-      rule-undue = λ r. differ _ _ refl (ap (λ (s : Sent). getD (sender.valuesOf s) 1 0) (r .2));
-      rule-refused = λ r. differ _ _ refl (ap sender.numberOf (r .2));
+      rule-undue = λ r. differ _ _ refl (ap (λ (s : Sent). getD (sender.sentValues s) 1 0) (r .2));
+      rule-refused = λ r. differ _ _ refl (ap sender.sentNumber (r .2));
       share-more = above _ _ refl;
       share-less = not-below _ _ refl;
-      same-rule-waits = λ r. other (subst (Lowest theirs (T.positions (seen marked))) (r .2) (r .1));
-      same-rule-other = λ r. other (subst (Lowest theirs (T.positions (seen marked))) (r .2) (r .1));
+      same-rule-waits = λ r. other (subst (Lowest theirs (T.positions (system marked))) (r .2) (r .1));
+      same-rule-other = λ r. other (subst (Lowest theirs (T.positions (system marked))) (r .2) (r .1));
       same-rule-behind = λ r. r .2;
       same-rule-refused = λ r. differ 9 8 refl (r .2);
       in-order-swapped = λ b. differ _ _ refl (ap (named 0) (b .1));

@@ -11,14 +11,13 @@ use Rattle.marker.specs.Marker.{markerOf}
 use Rattle.report.specs.declared.Report.the-variants.{Missing, Behind}
 use Rattle.report.specs.Report.{ahead, reportOf}
 use Rattle.plan.specs.Plan.{at}
-use Rattle.sender.specs.declared.Sender.{Sender}
-use Rattle.sender.specs.declared.Sent.{Sent}
-use Rattle.sender.specs.declared.Sent.the-variants as sent
-use Rattle.sender.specs.Sender.{openOf, sendOf, markerOn}
-use Rattle.receiver.specs.declared.Taken.{Taken}
-use Rattle.receiver.specs.declared.Taken.the-variants as taken
-use Rattle.receiver.specs.Taking.{takeOf}
-use Rattle.bundle.specs.Worlds.{World, Call, sends, asks, arrives, loses, takes, call, calls, handedIn}
+use Rattle.sending.specs.declared.Sender.{Sender}
+use Rattle.sending.specs.declared.Sent.{Sent}
+use Rattle.sending.specs.declared.Sent.the-variants as sent
+use Rattle.sending.specs.Sender.{openSender, sendOf, lineMarker}
+use Rattle.bundle.specs.Events.{Event, each}
+use Rattle.bundle.specs.Events as event
+use Rattle.bundle.specs.Worlds.{World, Call, arrives, calls, events, handedIn}
 use Rattle.paper.specs.Session.{numbered, someTakes, opened, firstFive, lossy}
 
 -- a row of the table: line, round and counter before the send, and 1 if markers are due after it
@@ -31,30 +30,28 @@ rows s [] = []
 rows s (size ∷ sizes) = rowOf s (sendOf s size .answer) ∷ rows (sendOf s size .next) sizes
 
 -- the line and the bytes missing that each marker reports
-abbrev pub toldBy : Taken → List (List ℕ)
-toldBy (taken.Waiting i) = []
-toldBy (taken.Data i n) = []
-toldBy (taken.Missing i m) = (i ∷ m ∷ []) ∷ []
-toldBy (taken.Behind i) = []
-toldBy (taken.Refused k) = []
-
-abbrev pub telling : World → Call → List (List ℕ)
-telling w (sends x) = []
-telling w (asks i out) = []
-telling w (arrives i) = []
-telling w (loses i) = []
-telling w (takes out) = toldBy (takeOf (w .receiver) (w .store) out .result .answer)
+abbrev pub toldBy : Event → List (List ℕ)
+toldBy (event.sent i x due) = []
+toldBy (event.marked i b) = []
+toldBy (event.stored i x) = []
+toldBy (event.turned-away i x k) = []
+toldBy (event.lost i x) = []
+toldBy event.nothing = []
+toldBy (event.handed i b) = []
+toldBy (event.missing i m) = (i ∷ m ∷ []) ∷ []
+toldBy (event.behind i) = []
+toldBy (event.waiting i) = []
+toldBy (event.refused k) = []
 
 abbrev pub toldIn : World → List Call → List (List ℕ)
-toldIn w [] = []
-toldIn w (e ∷ h) = telling w e ++ toldIn (call w e) h
+toldIn w h = each toldBy (events w h)
 
 -- one line of quantum 500, and another: line and counter after a first send
 abbrev pub equal : Plan
 equal = record { lines = 2; max = 500; interval = 1; quanta = 500 ∷ 500 ∷ replicate 14 0 }
 
 abbrev pub lineAndCounter : ℕ → List ℕ
-lineAndCounter size = let s = sendOf (openOf equal .sender) size .next in s .line ∷ at (s .counters) 0 ∷ []
+lineAndCounter size = let s = sendOf (openSender equal .sender) size .next in s .line ∷ at (s .counters) 0 ∷ []
 
 pub record Examples : Type 0 where
   -- the eight choices
@@ -71,8 +68,8 @@ pub record Examples : Type 0 where
       ∷ []
   -- markers after packet 5
   pub markers :
-      (markerOn (calls opened (firstFive (arrives 0) (arrives 1)) .sender) 0 ≡ 0x00 ∷ 0x02 ∷ 0xA0 ∷ 0x06 ∷ [])
-      × (markerOn (calls opened (firstFive (arrives 0) (arrives 1)) .sender) 1 ≡ 0x01 ∷ 0x02 ∷ 0xDE ∷ 0x02 ∷ [])
+      (lineMarker (calls opened (firstFive (arrives 0) (arrives 1)) .sender) 0 ≡ 0x00 ∷ 0x02 ∷ 0xA0 ∷ 0x06 ∷ [])
+      × (lineMarker (calls opened (firstFive (arrives 0) (arrives 1)) .sender) 1 ≡ 0x01 ∷ 0x02 ∷ 0xDE ∷ 0x02 ∷ [])
   -- packet 2 lost: handed out are 1, 3, 4, 5, 6, 7, 8; line 0's marker reports 500 missing, line 1's 0
   pub packet-lost :
       (handedIn opened (lossy ++ someTakes 5)

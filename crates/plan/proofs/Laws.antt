@@ -6,7 +6,7 @@ use native.Mathlib.Numerals.{add-one}
 use native.Mathlib.Omega.{arith}
 use mathlib.Core.Bool.{Bool, true, false, cond}
 use mathlib.Core.List.{List}
-use lib.ListN.{length, drop, take, getD, replicate, length-append, length-replicate, List·getD-append}
+use lib.ListN.{length, drop, take, getD, replicate, length-append, length-replicate, getD-replicate, List·getD-append}
 use lib.Seq.{length-take-le, getD-take}
 use borrow.Author.Tests.{eq-eqb, ne-eqb}
 use Rattle.numbers.specs.declared.Reading.{Reading}
@@ -18,8 +18,9 @@ use Rattle.numbers.specs.Writing.{written, outcome}
 use Rattle.numbers.proofs.Checks.{both, in-range as is-in-range, from-range, all-at, all}
 use Rattle.numbers.proofs.Laws.{never}
 use Rattle.plan.specs.declared.Plan.{Plan}
+use Rattle.plan.specs.declared.LinePlan.{LinePlan}
 use Rattle.plan.specs.Limits.{leastLines, mostLines, leastMax, mostMax, mostQuantum, leastInterval, mostInterval}
-use Rattle.plan.specs.Plan.{quantum, quantumOk, planOk, chargeOf, firstEntries, trimmed}
+use Rattle.plan.specs.Plan.{at, quantum, linePlan, chargeOf, quantumOk, planOk, counterOk, countersOk, firstEntries, trimmed}
 use Rattle.plan.specs.Record.{bare, readPlan, refusedPlan, within, withQuantum, quantaRead, planRead, planBytes, planWritten}
 
 -- ---- a plan in range
@@ -54,25 +55,56 @@ in-range p e =
       quantum-most = λ i h. from-range (p .max) (quantum p i) mostQuantum (all-at (quantumOk p) (p .lines) (a .1) i h) .1;
     }
 
+-- a line's plan in range
+pub record LineInRange (l : LinePlan) : Type 0 where
+  pub largest-least : leastMax ≤ l .largest
+  pub largest-most : l .largest ≤ mostMax
+  pub quantum-least : l .largest ≤ l .quantum
+  pub quantum-most : l .quantum ≤ mostQuantum
+
+pub line-in-range : (p : Plan) → planOk p ≡ true → (i : ℕ) → i < p .lines → LineInRange (linePlan p i)
+line-in-range p good i line =
+    let r = in-range p good in
+    record {
+      largest-least = r .max-least;
+      largest-most = r .max-most;
+      quantum-least = r .quantum-least i line;
+      quantum-most = r .quantum-most i line;
+    }
+
 -- ---- what a packet is charged
 
-module _ (p : Plan) (good : planOk p ≡ true) (i : ℕ) (line : i < p .lines) (n : ℕ) (some : 1 ≤ n) (most : n ≤ p .max) where
-  pub charge-some : 1 ≤ chargeOf p i n
+module _ (l : LinePlan) (range : LineInRange l) where
+  -- the quantum bounds the charge for the largest packet,
+  pub max-charge-quantum : chargeOf l (l .largest) ≤ l .quantum
   unfolding chargeOf
-  charge-some = some
+  max-charge-quantum = range .quantum-least
 
-  -- the charge for the largest packet bounds every charge, and the quantum bounds that
-  pub charge-max : chargeOf p i n ≤ chargeOf p i (p .max)
-  unfolding chargeOf
-  charge-max = most
+  module _ (n : ℕ) (some : 1 ≤ n) (most : n ≤ l .largest) where
+    pub charge-some : 1 ≤ chargeOf l n
+    unfolding chargeOf
+    charge-some = some
 
-  pub charge-quantum : chargeOf p i n ≤ quantum p i
-  unfolding chargeOf
-  charge-quantum = omega (arith, in-range p good .quantum-least i line)
+    -- and that bounds every charge
+    pub charge-max : chargeOf l n ≤ chargeOf l (l .largest)
+    unfolding chargeOf
+    charge-max = most
 
-pub max-charge-quantum : (p : Plan) → planOk p ≡ true → (i : ℕ) → i < p .lines → chargeOf p i (p .max) ≤ quantum p i
-unfolding chargeOf
-max-charge-quantum p good i line = in-range p good .quantum-least i line
+    pub charge-quantum : chargeOf l n ≤ l .quantum
+    charge-quantum = omega (arith, charge-max, max-charge-quantum)
+
+-- ---- counters
+
+pub counters-in : (p : Plan) (counters : List ℕ) → countersOk p counters ≡ true → (i : ℕ) → i < p .lines
+    → (1 ≤ at counters i) × (at counters i ≤ quantum p i)
+unfolding countersOk
+counters-in p counters e i h = from-range 1 (at counters i) (quantum p i) (all-at (counterOk p counters) (p .lines) e i h)
+
+pub are-counters : (p : Plan) (counters : List ℕ) → ((i : ℕ) → i < p .lines → (1 ≤ at counters i) × (at counters i ≤ quantum p i))
+    → countersOk p counters ≡ true
+unfolding countersOk
+are-counters p counters each =
+    all (counterOk p counters) (p .lines) (λ i h. is-in-range 1 (at counters i) (quantum p i) (each i h .0) (each i h .1))
 
 -- ---- the check of a plan, test by test
 
@@ -184,6 +216,14 @@ pub entries-length : (n : ℕ) (l : List ℕ) → n ≤ mostLines → length l �
 entries-length n l few sixteen =
     length-append (take n l) (replicate (mostLines - n) 0)
     ∙ omega (arith, length-take-le n l (omega arith), length-replicate {A = ℕ} (mostLines - n) 0)
+
+-- what opening makes of sixteen ones
+pub first-ones : (n : ℕ) → n ≤ mostLines → (i : ℕ) → i < n → at (firstEntries n (replicate mostLines 1)) i ≡ 1
+first-ones n few i h =
+    first-entry n (replicate mostLines 1) i h (rw length-replicate few) ∙ getD-replicate mostLines i 1 0 (omega (arith, few))
+
+pub ones-length : (n : ℕ) → n ≤ mostLines → length (firstEntries n (replicate mostLines 1)) ≡ mostLines
+ones-length n few = entries-length n (replicate mostLines 1) few (length-replicate {A = ℕ} mostLines 1)
 
 pub trimmed-quantum : (p : Plan) → planOk p ≡ true → length (p .quanta) ≡ mostLines → (i : ℕ) → i < p .lines → quantum (trimmed p) i ≡ quantum p i
 trimmed-quantum p good sixteen i h = first-entry (p .lines) (p .quanta) i h (omega (arith, in-range p good .few-lines))

@@ -9,7 +9,7 @@ use lib.ListN.{length, take, getD, replicate, length-append}
 use lib.Seq.{take-at, length-take-le}
 use Rattle.numbers.specs.Checks.{check, inRange, allBelow}
 use Rattle.numbers.specs.Writing.{numberOf, lengthOf, room}
-use Rattle.numbers.specs.Coding.{Bytes, coded, rowBytes, reading, readingOf}
+use Rattle.numbers.specs.Coding.{Bytes, coded, rowBytes, readingOf}
 use Rattle.numbers.proofs.Checks.{check-passed, in-range as is-in-range, from-range, all}
 use Rattle.numbers.proofs.Laws.{coded-size-of, accepted}
 use Rattle.plan.specs.declared.Plan.{Plan}
@@ -128,5 +128,5 @@ abbrev pub sessionRecord : List ℕ
 sessionRecord = 0x02 ∷ 0xF4 ∷ 0x03 ∷ 0x01 ∷ 0xE8 ∷ 0x07 ∷ 0xF4 ∷ 0x03 ∷ []
 
 pub examples : (planOk session ≡ true) × (planBytes session ≡ sessionRecord) × (planRead sessionRecord ≡ readPlan session)
-unfolding planOk allBelow rowBytes coded planRead quantaRead readingOf reading
+unfolding planOk allBelow rowBytes coded planRead quantaRead readingOf
 examples = (refl, refl, refl)

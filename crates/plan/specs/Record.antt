@@ -2,7 +2,7 @@
 use Prim.Native.Nat.{ℕ, zero, suc}
 use mathlib.Core.Bool.{cond}
 use mathlib.Core.List.{List, _∷_}
-use lib.ListN.{length, take, set, replicate}
+use lib.ListN.{length, take, set}
 use lib.Dec.{eqb}
 use Rattle.numbers.specs.declared.Reading.{Reading}
 use Rattle.numbers.specs.declared.Reading.the-variants.{Number, Nothing}
@@ -12,12 +12,9 @@ use Rattle.numbers.specs.Writing.{Outcome, room, outcome}
 use Rattle.plan.specs.declared.Plan.{Plan}
 use Rattle.plan.specs.declared.PlanRead.{PlanRead}
 use Rattle.plan.specs.Limits.{leastLines, mostLines, leastMax, mostMax, mostQuantum, leastInterval, mostInterval}
-use Rattle.plan.specs.Plan.{planOk}
+use Rattle.plan.specs.Plan.{zeros, noPlan, planOk}
 
 -- ---- reading
-
-abbrev pub zeros : List ℕ
-zeros = replicate mostLines 0
 
 -- the plan of three numbers, its quanta to come
 abbrev pub bare : ℕ → ℕ → ℕ → Plan
@@ -28,7 +25,7 @@ readPlan p = record { number = 0; plan = p }
 
 -- number 1 and an all-zero plan
 abbrev pub refusedPlan : PlanRead
-refusedPlan = record { number = 1; plan = bare 0 0 0 }
+refusedPlan = record { number = 1; plan = noPlan }
 
 -- a reading, kept where its number is from low to high
 abbrev pub within : ℕ → ℕ → Reading → Reading

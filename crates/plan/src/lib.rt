@@ -8,7 +8,7 @@ ghost use mathlib.Core.List.{_∷_};
 ghost use Rattle.numbers.specs.Checks.{allBelow};
 ghost use Rattle.numbers.specs.Coding.{readingOf};
 ghost use Rattle.plan.specs.Limits.{leastLines, mostLines, leastMax, mostMax, mostQuantum, leastInterval, mostInterval, itemHead, mostStore};
-ghost use Rattle.plan.specs.Plan.{quantumOk, planOk, storeOk, chargeOf, firstEntries, trimmed};
+ghost use Rattle.plan.specs.Plan.{at, noPlan, quantumOk, planOk, storeOk, countersOk, linePlan, chargeOf, firstEntries, trimmed};
 ghost use Rattle.plan.specs.Record.{within, refusedPlan, quantaRead, planRead, planWritten};
 
 // Lines are numbered from 0 in the order of the quanta, never by name. Entries for lines from `lines` on are ignored and kept.
@@ -18,6 +18,12 @@ pub struct Plan {
     pub max: u32,
     pub interval: u32,
     pub quanta: [u32; Plan::MOST_LINES],
+}
+
+// What one line needs of the plan: its quantum, and the largest packet.
+pub struct LinePlan {
+    pub quantum: u32,
+    pub largest: u32,
 }
 
 // What reading a plan record answers: 0 and the plan, or the number of the refusal and an all-zero plan.
@@ -110,11 +116,64 @@ pub fn store_ok(p: Plan, size: u32) -> bool
     numbers::in_range(max + Plan::ITEM_HEAD, size, Plan::MOST_STORE)
 }
 
+// Whether each of the plan's lines has a counter of 1 to its quantum.
+pub fn counters_ok(p: Plan, counters: [u32; Plan::MOST_LINES]) -> bool
+    ensures { λ r. ⌜ r ≡ countersOk p counters ⌝ }
+{
+    let quanta = p.quanta;
+    let n = p.lines as usize;
+    if Plan::MOST_LINES < n {
+        return false;
+    }
+    let mut good = true;
+    let mut i: usize = 0;
+    while i < n {
+        let fits = numbers::in_range(1, counters[i], quanta[i]);
+        good = good & fits;
+        i += 1;
+    }
+    good
+}
+
+// Entry i of sixteen; behind them there are zeros.
+pub fn entry(entries: [u32; Plan::MOST_LINES], i: u32) -> u32
+    ensures { λ r. ⌜ r ≡ at entries i ⌝ }
+{
+    if Plan::MOST_LINES <= i as usize {
+        return 0;
+    }
+    entries[i as usize]
+}
+
+// A line's plan.
+pub fn line_plan(p: Plan, line: u32) -> LinePlan
+    ensures { λ r. ⌜ r ≡ linePlan p line ⌝ }
+{
+    let quanta = p.quanta;
+    let quantum = entry(quanta, line);
+    LinePlan {
+        quantum,
+        largest: p.max,
+    }
+}
+
 // What a packet of that length is charged on a line.
-pub fn charge(p: Plan, line: u32, length: u32) -> u32
-    ensures { λ r. ⌜ r ≡ chargeOf p line length ⌝ }
+pub fn charge(l: LinePlan, length: u32) -> u32
+    ensures { λ r. ⌜ r ≡ chargeOf l length ⌝ }
 {
     length
+}
+
+// The plan of zeros, on which nothing opens.
+pub fn no_plan() -> Plan
+    ensures { λ r. ⌜ r ≡ noPlan ⌝ }
+{
+    Plan {
+        lines: 0,
+        max: 0,
+        interval: 0,
+        quanta: [0; Plan::MOST_LINES],
+    }
 }
 
 // The first n of a line's entries, and zeros from there on.
@@ -147,15 +206,8 @@ pub fn trim(p: Plan) -> Plan
 fn refused() -> PlanRead
     ensures { λ r. ⌜ r ≡ refusedPlan ⌝ }
 {
-    PlanRead {
-        number: 1,
-        plan: Plan {
-            lines: 0,
-            max: 0,
-            interval: 0,
-            quanta: [0; Plan::MOST_LINES],
-        },
-    }
+    let plan = no_plan();
+    PlanRead { number: 1, plan }
 }
 
 // Reads a number from low to high; another one is nothing.

@@ -7,42 +7,39 @@ use mathlib.Core.List.{List}
 use lib.Dec.{ltb, eqb}
 use borrow.Author.Tests.{ltb-true, ltb-false, lt-ltb, le-ltb, le-leb, lt-leb, eq-eqb, ne-eqb, eqb-true}
 use Rattle.numbers.specs.Checks.{inRange}
-use Rattle.numbers.proofs.Checks.{from-range}
+use Rattle.numbers.specs.Wrap.{wrap, half}
+use Rattle.numbers.proofs.Checks.{check-passed, from-range}
 use Rattle.marker.specs.declared.Marker.{Marker}
 use Rattle.marker.specs.declared.MarkerRead.{MarkerRead}
 use Rattle.marker.specs.declared.MarkerRead.the-variants.{Whole, Refused}
-use Rattle.marker.specs.Marker.{numberOf, recordRead}
-use Rattle.marker.proofs.Laws.{whole-not-refused, record-accepted}
+use Rattle.marker.specs.Marker.{numberOf, recordRead, judge, judged}
+use Rattle.marker.proofs.Laws.{whole-not-refused, record-accepted, judge-passed, judge-refused}
 use Rattle.report.specs.declared.Report.the-variants.{Missing, Behind}
-use Rattle.report.specs.Report.{markerChecked, thenChecked, markerOn, ahead, missing, reportOf}
+use Rattle.report.specs.Report.{onNumber, markerOn, ahead, missing, reportOf}
 
 -- ---- a marker on a line
 
 module _ (line q : ℕ) (m : Marker) where
-  pub counter-bad : inRange 1 (m .counter) q ≡ false → Refused 5 ≡ markerChecked line q m
-  unfolding markerChecked
+  pub counter-bad : inRange 1 (m .counter) q ≡ false → Refused 5 ≡ judge (onNumber line q m) m
+  unfolding judge
   counter-bad e = simp e
 
   module _ (counter : inRange 1 (m .counter) q ≡ true) where
-    pub line-bad : (m .line ≡ line → ⊥) → Refused 6 ≡ markerChecked line q m
-    unfolding markerChecked
+    pub line-bad : (m .line ≡ line → ⊥) → Refused 6 ≡ judge (onNumber line q m) m
+    unfolding judge
     line-bad h = simp (counter, ne-eqb (m .line) line h)
 
-    pub both-good : m .line ≡ line → Whole m ≡ markerChecked line q m
-    unfolding markerChecked
+    pub both-good : m .line ≡ line → Whole m ≡ judge (onNumber line q m) m
+    unfolding judge
     both-good h = simp (counter, eq-eqb (m .line) line h)
 
-  -- what passes is the marker itself, with a counter in range and the line's number
-  pub passed : (k : Marker) → markerChecked line q m ≡ Whole k → (m ≡ k) × (1 ≤ m .counter) × (m .counter ≤ q) × (m .line ≡ line)
-  unfolding markerChecked
-  passed k e = go (inRange 1 (m .counter) q) refl (eqb (m .line) line) refl e
-    where
-      go : (a : Bool) → inRange 1 (m .counter) q ≡ a → (b : Bool) → eqb (m .line) line ≡ b
-          → cond (eqb (cond a (cond b 0 6) 5) 0) (Whole m) (Refused (cond a (cond b 0 6) 5)) ≡ Whole k
-          → (m ≡ k) × (1 ≤ m .counter) × (m .counter ≤ q) × (m .line ≡ line)
-      go true p true r e = let c = from-range 1 (m .counter) q p in (cc, c .0, c .1, eqb-true (m .line) line r)
-      go true p false r e = absurd (whole-not-refused e)
-      go false p b r e = absurd (whole-not-refused e)
+  -- what passes has a counter in range and the line's number
+  pub passed : onNumber line q m ≡ 0 → (1 ≤ m .counter) × (m .counter ≤ q) × (m .line ≡ line)
+  passed e =
+      let counter = check-passed (inRange 1 (m .counter) q) 5 _ (omega arith) e in
+      let own = check-passed (eqb (m .line) line) 6 0 (omega arith) (counter .1) in
+      let c = from-range 1 (m .counter) q (counter .0) in
+      (c .0, c .1, eqb-true (m .line) line (own .0))
 
 -- a marker that is read on a line was read, and holds there
 pub on-line : (line q : ℕ) (s : List ℕ) (m : Marker) → markerOn line q s ≡ Whole m
@@ -50,23 +47,21 @@ pub on-line : (line q : ℕ) (s : List ℕ) (m : Marker) → markerOn line q s �
 unfolding markerOn
 on-line line q s m e = go (recordRead s) refl e
   where
-    go : (r : MarkerRead) → recordRead s ≡ r → thenChecked line q r ≡ Whole m
+    go : (r : MarkerRead) → recordRead s ≡ r → judged (onNumber line q) r ≡ Whole m
         → (recordRead s ≡ Whole m) × (1 ≤ m .counter) × (m .counter ≤ q) × (m .line ≡ line)
     go (Refused k) h e = absurd (whole-not-refused e)
-    go (Whole n) h e = let p = passed line q n m e in rw (← p .0) (h, p .1, p .2, p .3)
+    go (Whole n) h e =
+        let j = judge-passed (onNumber line q n) n m e in
+        let p = passed line q n (j .0) in
+        rw (← j .1) (h, p .0, p .1, p .2)
 
 -- a marker that is refused on its line is refused by a number
 pub some-number : (i q : ℕ) (b : List ℕ) (k : ℕ) → markerOn i q b ≡ Refused k → k ≡ 0 → ⊥
-unfolding markerOn markerChecked
+unfolding markerOn
 some-number i q b k e z = go (recordRead b) refl e
   where
-    checked : (m : Marker) (a l : Bool) → cond (eqb (cond a (cond l 0 6) 5) 0) (Whole m) (Refused (cond a (cond l 0 6) 5)) ≡ Refused k → ⊥
-    checked m true true e = whole-not-refused (sym e)
-    checked m true false e = let s : 6 ≡ k = cc in omega arith
-    checked m false l e = let s : 5 ≡ k = cc in omega arith
-
-    go : (t : MarkerRead) → recordRead b ≡ t → thenChecked i q t ≡ Refused k → ⊥
-    go (Whole m) h e = checked m (inRange 1 (m .counter) q) (eqb (m .line) i) e
+    go : (t : MarkerRead) → recordRead b ≡ t → judged (onNumber i q) t ≡ Refused k → ⊥
+    go (Whole m) h e = judge-refused (onNumber i q m) m k e .1 z
     go (Refused j) h e =
         let s : j ≡ k = cc in
         whole-not-refused (sym h ∙ record-accepted b (ap numberOf h ∙ s ∙ z) .1)
@@ -75,34 +70,34 @@ some-number i q b k e z = go (recordRead b) refl e
 
 module _ (round from : ℕ) where
   -- added to the round that it is counted from, it wraps back
-  pub ahead-is : from < 4294967296 → (r : ℕ) → r < 4294967296 → (r + from) % 2 ^ 32 ≡ round → r ≡ ahead round from
+  pub ahead-is : from < wrap → (r : ℕ) → r < wrap → (r + from) % 2 ^ 32 ≡ round → r ≡ ahead round from
   unfolding ahead
   ahead-is f r l e = omega arith
 
 -- ---- the report
 
 module _ (q round counter : ℕ) (m : Marker) where
-  pub far-behind : 2147483648 ≤ ahead (m .round) round → Behind ≡ reportOf q round counter m
+  pub far-behind : half ≤ ahead (m .round) round → Behind ≡ reportOf q round counter m
   unfolding reportOf
-  far-behind h = simp (le-leb 2147483648 (ahead (m .round) round) h)
+  far-behind h = simp (le-leb half (ahead (m .round) round) h)
 
-  module _ (near : ahead (m .round) round < 2147483648) where
+  module _ (near : ahead (m .round) round < half) where
     pub counter-behind : ahead (m .round) round ≡ 0 → counter < m .counter → Behind ≡ reportOf q round counter m
     unfolding reportOf
-    counter-behind z h = simp (lt-leb 2147483648 (ahead (m .round) round) near, eq-eqb (ahead (m .round) round) 0 z, lt-ltb counter (m .counter) h)
+    counter-behind z h = simp (lt-leb half (ahead (m .round) round) near, eq-eqb (ahead (m .round) round) 0 z, lt-ltb counter (m .counter) h)
 
     pub same-round : ahead (m .round) round ≡ 0 → m .counter ≤ counter → Missing (missing q round counter m) ≡ reportOf q round counter m
     unfolding reportOf
-    same-round z h = simp (lt-leb 2147483648 (ahead (m .round) round) near, eq-eqb (ahead (m .round) round) 0 z, le-ltb counter (m .counter) h)
+    same-round z h = simp (lt-leb half (ahead (m .round) round) near, eq-eqb (ahead (m .round) round) 0 z, le-ltb counter (m .counter) h)
 
     pub later-round : (ahead (m .round) round ≡ 0 → ⊥) → Missing (missing q round counter m) ≡ reportOf q round counter m
     unfolding reportOf
-    later-round z = simp (lt-leb 2147483648 (ahead (m .round) round) near, ne-eqb (ahead (m .round) round) 0 z)
+    later-round z = simp (lt-leb half (ahead (m .round) round) near, ne-eqb (ahead (m .round) round) 0 z)
 
   -- a marker that reports is less than 2^31 rounds ahead
-  pub told-near : (x : ℕ) → reportOf q round counter m ≡ Missing x → ahead (m .round) round < 2147483648
-  told-near x e = go (ltb (ahead (m .round) round) 2147483648) refl
+  pub told-near : (x : ℕ) → reportOf q round counter m ≡ Missing x → ahead (m .round) round < half
+  told-near x e = go (ltb (ahead (m .round) round) half) refl
     where
-      go : (t : Bool) → ltb (ahead (m .round) round) 2147483648 ≡ t → ahead (m .round) round < 2147483648
+      go : (t : Bool) → ltb (ahead (m .round) round) half ≡ t → ahead (m .round) round < half
       go true p = ltb-true _ _ p
       go false p = absurd (let z : Behind ≡ Missing x = far-behind (ltb-false _ _ p) ∙ e in let y : _≡_ {A = ℕ} 0 1 = cc in omega arith)

@@ -4,7 +4,8 @@ use marker::Marker;
 use marker::MarkerRead;
 ghost use mathlib.Core.Path.{_≡_};
 ghost use Prim.Native.Nat.{_+_, _-_, _*_, _≤_, _<_};
-ghost use Rattle.report.specs.Report.{markerChecked, markerOn, ahead, reportOf};
+ghost use Rattle.marker.specs.Marker.{judge};
+ghost use Rattle.report.specs.Report.{onNumber, markerOn, ahead, reportOf};
 
 // The bytes missing before a marker; or the line has gone past it.
 pub enum Report {
@@ -14,7 +15,7 @@ pub enum Report {
 
 // A marker that holds for a line of that quantum. Refused: 5, 6.
 fn checked(line: u32, quantum: u32, m: Marker) -> MarkerRead
-    ensures { λ r. ⌜ r ≡ markerChecked line quantum m ⌝ }
+    ensures { λ r. ⌜ r ≡ judge (onNumber line quantum m) m ⌝ }
 {
     if !numbers::in_range(1, m.counter, quantum) {
         return MarkerRead::Refused(5);

@@ -1,5 +1,2 @@
-pub mod Laws
-pub mod Steps
-pub mod Histories
-pub mod Promises
+mod Readying
 mod Determined

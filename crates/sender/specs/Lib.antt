@@ -1,2 +1,1 @@
-pub mod Sender
-pub mod History
+pub mod Ready

@@ -1,60 +1,17 @@
 // The booth's end: a sender by value. Each call takes the state and hands back the next one; a refusal hands back the state it was
-// given. The definitions are in specs/: Sender, and History for runs of calls.
+// given. The definitions are `sending`'s.
 use marker::Marker;
 use numbers::Written;
 use plan::Plan;
+use sending::SendResult;
+use sending::Sender;
+use sending::SenderOpened;
+use sending::Sent;
 ghost use mathlib.Core.Path.{_≡_};
 ghost use Prim.Native.Nat.{_≤_};
-ghost use Rattle.numbers.specs.Checks.{allBelow};
-ghost use Rattle.plan.specs.Limits.{mostLines};
 ghost use Rattle.plan.specs.Plan.{at};
-ghost use Rattle.sender.specs.Sender.{counterOk, senderOk, openOf, Ready, refusedWith, wentWith, sendOf, markerFrom};
-
-// Entries for lines from the plan's `lines` on are ignored and kept.
-#[repr(C)]
-pub struct Sender {
-    pub plan: Plan,
-    pub line: u32,
-    pub countdown: u32,
-    pub rounds: [u32; Plan::MOST_LINES],
-    pub counters: [u32; Plan::MOST_LINES],
-}
-
-// What opening answers: 0 and the sender, or 1 and the closed state, all zeros.
-pub struct SenderOpened {
-    pub number: u32,
-    pub sender: Sender,
-}
-
-// What a send answers: the line the packet goes to and whether markers are due, or the number of the refusal.
-pub enum Sent {
-    Went(u32, bool),
-    Refused(u32),
-}
-
-pub struct SendResult {
-    pub answer: Sent,
-    pub next: Sender,
-}
-
-// No early way out of the loop: a state is checked at every call, and nearly always good.
-fn counters_ok(s: Sender) -> bool
-    requires { ⌜ s .plan .lines ≤ mostLines ⌝ }
-    ensures { λ r. ⌜ r ≡ allBelow (counterOk s) (s .plan .lines) ⌝ }
-{
-    let p = s.plan;
-    let quanta = p.quanta;
-    let counters = s.counters;
-    let n = p.lines as usize;
-    let mut good = true;
-    let mut i: usize = 0;
-    while i < n {
-        let fits = numbers::in_range(1, counters[i], quanta[i]);
-        good = good & fits;
-        i += 1;
-    }
-    good
-}
+ghost use Rattle.sending.specs.Sender.{senderOk, closedSender, openSender, notSent, went, sendOf, markerFrom};
+ghost use Rattle.sender.specs.Ready.{Ready};
 
 // Whether a state is valid.
 fn sender_ok(s: Sender) -> bool
@@ -70,30 +27,31 @@ fn sender_ok(s: Sender) -> bool
     if !numbers::in_range(1, s.countdown, p.interval) {
         return false;
     }
-    counters_ok(s)
+    let counters = s.counters;
+    plan::counters_ok(p, counters)
+}
+
+// The closed state, all zeros, which every other call refuses.
+pub fn closed() -> Sender
+    ensures { λ r. ⌜ r ≡ closedSender ⌝ }
+{
+    let plan = plan::no_plan();
+    Sender {
+        plan,
+        line: 0,
+        countdown: 0,
+        rounds: [0; Plan::MOST_LINES],
+        counters: [0; Plan::MOST_LINES],
+    }
 }
 
 // Opens a sender on a plan. Refused: 1.
 pub fn open(p: Plan) -> SenderOpened
-    ensures { λ r. ⌜ r ≡ openOf p ⌝ }
+    ensures { λ r. ⌜ r ≡ openSender p ⌝ }
 {
     if !plan::plan_ok(p) {
-        let no_plan = Plan {
-            lines: 0,
-            max: 0,
-            interval: 0,
-            quanta: [0; Plan::MOST_LINES],
-        };
-        return SenderOpened {
-            number: 1,
-            sender: Sender {
-                plan: no_plan,
-                line: 0,
-                countdown: 0,
-                rounds: [0; Plan::MOST_LINES],
-                counters: [0; Plan::MOST_LINES],
-            },
-        };
+        let sender = closed();
+        return SenderOpened { number: 1, sender };
     }
     let kept = plan::trim(p);
     let counters = kept.quanta;
@@ -112,7 +70,7 @@ pub fn open(p: Plan) -> SenderOpened
 }
 
 fn refused(s: Sender, number: u32) -> SendResult
-    ensures { λ r. ⌜ r ≡ refusedWith s number ⌝ }
+    ensures { λ r. ⌜ r ≡ notSent s number ⌝ }
 {
     SendResult {
         answer: Sent::Refused(number),
@@ -123,7 +81,7 @@ fn refused(s: Sender, number: u32) -> SendResult
 // The current line's counter has run out: it is topped up, its round rises, and the next line becomes current.
 fn move_on(s: Sender, charge: u32) -> SendResult
     requires { ⌜ Ready s charge × (at (s .counters) (s .line) ≤ charge) ⌝ }
-    ensures { λ r. ⌜ r ≡ wentWith s charge ⌝ }
+    ensures { λ r. ⌜ r ≡ went s charge ⌝ }
 {
     let p = s.plan;
     let quanta = p.quanta;
@@ -159,7 +117,7 @@ fn move_on(s: Sender, charge: u32) -> SendResult
 // A packet that is charged so much goes to the current line.
 fn go(s: Sender, charge: u32) -> SendResult
     requires { ⌜ Ready s charge ⌝ }
-    ensures { λ r. ⌜ r ≡ wentWith s charge ⌝ }
+    ensures { λ r. ⌜ r ≡ went s charge ⌝ }
 {
     let counters = s.counters;
     let i = s.line as usize;
@@ -192,7 +150,8 @@ pub fn send(s: Sender, length: usize) -> SendResult
     let quanta = p.quanta;
     let counters = s.counters;
     let i = s.line as usize;
-    let charge = plan::charge(p, s.line, length as u32);
+    let line = plan::line_plan(p, s.line);
+    let charge = plan::charge(line, length as u32);
     if counters[i] + quanta[i] <= charge {
         return refused(s, 10);
     }

@@ -2,6 +2,8 @@
 use Rattle.numbers.proofs.Tight.{only, OneAnswer, OneOutcome}
 use Rattle.session.proofs.begin.Reads as begin
 use Rattle.session.proofs.begin.Kinds as begin-kinds
+use Rattle.session.proofs.ended.Reads as ended
+use Rattle.session.proofs.ended.Kinds as ended-kinds
 use Rattle.session.proofs.feed.Reads as feed
 use Rattle.session.proofs.feed.Kinds as feed-kinds
 use Rattle.session.proofs.close.Reads as close
@@ -9,6 +11,9 @@ use Rattle.session.proofs.close.Kinds as close-kinds
 
 pub begin-tight : OneAnswer 0 begin-kinds.ps begin-kinds.r begin.Post
 begin-tight κs a z z′ e e′ p q = only p q
+
+pub ended-tight : OneAnswer 0 ended-kinds.ps ended-kinds.r ended.Post
+ended-tight κs a z z′ e e′ p q = only p q
 
 pub feed-tight : OneOutcome 2 feed-kinds.ps feed-kinds.r feed.Post (λ κs e. e .1 .1 .0 .now)
 feed-tight κs a z z′ e e′ p q =

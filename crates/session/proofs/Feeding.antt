@@ -1,20 +1,20 @@
 -- The laws of a piece of the text, byte by byte, and of the end of the text. Assumes nothing.
-use borrow.Author.Tests.{lt-ltb, le-ltb, le-leb, lt-leb, eq-eqb, ne-eqb}
+use borrow.Author.Tests.{lt-ltb, le-ltb, eq-eqb, ne-eqb}
 use native.Mathlib.Numerals.{add-one}
 use native.Mathlib.Nat.{zero-add}
 use native.Mathlib.Omega.{arith}
 use mathlib.Core.Path.{_≡_, refl, ap, sym, _∙_}
-use mathlib.Core.Bool.{true, false, _&&_, _||_}
+use mathlib.Core.Bool.{true, false}
 use mathlib.Core.List.{List, [], _++_}
 use Prim.Native.Nat.{ℕ, _+_, _-_, _≤_, _<_}
-use lib.Dec.{leb, eqb}
 use lib.ListN.{length, getD, drop, set, length-append, length-drop, drop-of-length-le}
 use lib.Seq.{drop-cons, sets, sets-eq}
 use Rattle.numbers.proofs.Laws.{sets-append}
-use Rattle.session.specs.declared.Table.{Table}
+use Rattle.text.specs.Text.{lineFeed}
+use Rattle.table.specs.declared.Table.{Table}
+use Rattle.table.specs.Table.{mostText}
 use Rattle.session.specs.declared.Session.{Session}
-use Rattle.session.specs.Text.{lineFeed}
-use Rattle.session.specs.Session.{mostLine, mostText, Fed, lineEnds, keepByte, byteOf, endOf, Taken, oneMore, feedOf, closeOf}
+use Rattle.session.specs.Session.{mostLine, Fed, openLine, lineMade, lineEnds, keepByte, hasEnded, byteOf, endsLine, endOf, Taken, oneMore, feedOf, closeOf}
 
 -- a text at the front of the output
 pub front : (text out : List ℕ) → length text ≤ length out → sets out 0 text ≡ text ++ drop (length text) out
@@ -27,24 +27,24 @@ front-fits text out after e same = omega (arith, ap length e ∙ length-append t
 -- ---- a byte
 
 module _ (s : Session) (b : ℕ) where
-  pub byte-ended : 2 ≤ s .table .stage → byteOf s b ≡ record { session = s; text = [] }
+  pub byte-ended : hasEnded (s .table .stage) ≡ true → byteOf s b ≡ record { session = s; text = [] }
   unfolding byteOf
-  byte-ended h = simp (le-leb 2 (s .table .stage) h)
+  byte-ended e = simp e
 
-  module _ (going : s .table .stage < 2) where
+  module _ (going : hasEnded (s .table .stage) ≡ false) where
     pub byte-line : b ≡ lineFeed → byteOf s b ≡ lineEnds s
     unfolding byteOf
-    byte-line e = simp (lt-leb 2 (s .table .stage) going, eq-eqb b lineFeed e)
+    byte-line e = simp (going, eq-eqb b lineFeed e)
 
     module _ (other : b ≡ lineFeed → ⊥) where
       pub byte-kept : s .kept < mostLine
           → byteOf s b ≡ record { session = record { table = s .table; kept = s .kept + 1; line = set (s .line) (s .kept) b }; text = [] }
       unfolding byteOf keepByte
-      byte-kept h = simp (lt-leb 2 (s .table .stage) going, ne-eqb b lineFeed other, lt-ltb (s .kept) mostLine h)
+      byte-kept h = simp (going, ne-eqb b lineFeed other, lt-ltb (s .kept) mostLine h)
 
-      pub byte-over : mostLine ≤ s .kept → byteOf s b ≡ record { session = record { table = s .table; kept = 209; line = s .line }; text = [] }
+      pub byte-over : mostLine ≤ s .kept → byteOf s b ≡ record { session = record { table = s .table; kept = mostLine + 1; line = s .line }; text = [] }
       unfolding byteOf keepByte
-      byte-over h = simp (lt-leb 2 (s .table .stage) going, ne-eqb b lineFeed other, le-ltb (s .kept) mostLine h)
+      byte-over h = simp (going, ne-eqb b lineFeed other, le-ltb (s .kept) mostLine h)
 
 -- ---- a piece of the text: what is left of it, fed from here, makes the whole answer
 
@@ -93,9 +93,7 @@ module _ (whole : Taken) (out₀ out bytes : List ℕ) (used wrote : ℕ) (s : S
       (rw (feed-byte s bytes used (length out₀ - wrote) more room f e) at l))
 
 -- the table after a line's end, with no bytes of the next line
-pub line-ended : (s : Session) (t : Table) → t ≡ lineEnds s .session .table
-    → lineEnds s ≡ record { session = record { table = t; kept = 0; line = s .line }; text = lineEnds s .text }
-unfolding lineEnds
+pub line-ended : (s : Session) (t : Table) → t ≡ lineMade s .table → lineEnds s ≡ record { session = openLine t (s .line); text = lineMade s .text }
 line-ended s t e = rw e
 
 -- nothing is left
@@ -113,10 +111,10 @@ module _ (s : Session) (room : ℕ) where
   close-full h = simp (lt-ltb room mostText h)
 
   module _ (h : mostText ≤ room) where
-    pub close-none : (leb 2 (s .table .stage) || (eqb (s .kept) 0 && leb 1 (s .table .stage))) ≡ true → closeOf s room ≡ record { done = true; text = [] }
+    pub close-none : endsLine (s .table .stage) (s .kept) ≡ false → closeOf s room ≡ record { done = true; text = [] }
     unfolding closeOf endOf
     close-none e = simp (le-ltb room mostText h, e)
 
-    pub close-line : (leb 2 (s .table .stage) || (eqb (s .kept) 0 && leb 1 (s .table .stage))) ≡ false → closeOf s room ≡ record { done = true; text = lineEnds s .text }
+    pub close-line : endsLine (s .table .stage) (s .kept) ≡ true → closeOf s room ≡ record { done = true; text = lineMade s .text }
     unfolding closeOf endOf
     close-line e = simp (le-ltb room mostText h, e)

@@ -1,6 +1,4 @@
-mod Printing
-mod Reading
-mod Making
+mod Lines
 pub mod Feeding
 pub mod Promises
 mod Determined

@@ -9,17 +9,17 @@ use mathlib.Core.Path.{_≡_, refl, ap, sym, _∙_}
 use mathlib.Core.Bool.{Bool, true, false, cond}
 use mathlib.Core.List.{List, [], _∷_, _++_, append-assoc}
 use Prim.Native.Nat.{ℕ, suc, _+_, _-_, _≤_, _<_}
-use lib.Dec.{ltb, leb, eqb}
+use lib.Dec.{ltb, eqb}
 use lib.ListN.{length, take, drop, set, length-append}
 use lib.Seq.{sets, sets-eq, take-append-seam}
 use Rattle.numbers.specs.Checks.{allBelow}
-use Rattle.plan.specs.Plan.{planOk, chargeOf}
-use Rattle.sender.specs.Sender.{senderOk, nextSender, sendNumber, sendOf}
+use Rattle.plan.specs.Plan.{planOk, countersOk, chargeOf}
+use Rattle.sending.specs.Sender.{senderOk, nextSender, sendNumber, sendOf}
+use Rattle.text.specs.Text.{lineFeed, saidFrom, digitsOf}
+use Rattle.table.specs.declared.Table.{Table}
+use Rattle.table.specs.Table.{mostText, row, planGood, planLine, packetLine, lineOf}
 use Rattle.session.specs.declared.Session.{Session}
-use Rattle.session.specs.declared.Table.{Table}
-use Rattle.session.specs.Text.{lineFeed, saidFrom, digitsOf}
-use Rattle.session.specs.Table.{row, planGood, planLine, packetLine, lineOf}
-use Rattle.session.specs.Session.{mostLine, mostText, Fed, openLine, lineEnds, keepByte, byteOf, before, textOf, endOf, printed, Taken, oneMore, feedOf}
+use Rattle.session.specs.Session.{mostLine, Fed, openLine, heard, lineMade, keepByte, hasEnded, byteOf, before, textOf, endOf, printed, Taken, oneMore, feedOf}
 
 -- The text in two pieces is the text whole.
 pub pieces : (s : Session) (a b : List ℕ) → textOf s (a ++ b) ≡ before (textOf s a .text) (textOf (textOf s a .session) b)
@@ -42,7 +42,7 @@ abbrev holding : Table → ℕ → List ℕ → Session
 holding t kept line = record { table = t; kept = kept; line = line }
 
 -- the bytes of a line are kept until its end
-kept : (t : Table) → leb 2 (t .stage) ≡ false → (line rest : List ℕ) (k : ℕ) (buffer : List ℕ) → NoFeed line → k + length line ≤ mostLine
+kept : (t : Table) → hasEnded (t .stage) ≡ false → (line rest : List ℕ) (k : ℕ) (buffer : List ℕ) → NoFeed line → k + length line ≤ mostLine
     → textOf (holding t k buffer) (line ++ rest) ≡ textOf (holding t (k + length line) (sets buffer k line)) rest
 unfolding textOf byteOf keepByte
 kept t going [] rest k buffer none fits = rw add-zero
@@ -53,10 +53,10 @@ kept t going (b ∷ line) rest k buffer none fits =
 
 -- A line and its line feed make the line of table that `lineOf` says, and then comes the rest of the text. (The open line's buffer has 208
 -- bytes; what an ended line left in it is never looked at.)
-pub line-by-line : (t : Table) (buffer line rest : List ℕ) → leb 2 (t .stage) ≡ false → length buffer ≡ mostLine → NoFeed line → length line ≤ mostLine
+pub line-by-line : (t : Table) (buffer line rest : List ℕ) → hasEnded (t .stage) ≡ false → length buffer ≡ mostLine → NoFeed line → length line ≤ mostLine
     → textOf (openLine t buffer) (line ++ (lineFeed ∷ rest))
     ≡ before (lineOf t line .text) (textOf (openLine (lineOf t line .table) (sets buffer 0 line)) rest)
-unfolding textOf byteOf lineEnds
+unfolding textOf byteOf lineMade heard lineOf
 line-by-line t buffer line rest going size none fits =
     let front : take (length line) (sets buffer 0 line) ≡ line =
     ap (take (length line)) (sets-eq line buffer 0 (omega arith)) ∙ take-append-seam line (drop (0 + length line) buffer) in
@@ -146,5 +146,5 @@ table =
     56 ∷ 32 ∷ 49 ∷ 48 ∷ 48 ∷ 32 ∷ 49 ∷ 32 ∷ 50 ∷ 32 ∷ 51 ∷ 53 ∷ 48 ∷ 32 ∷ 45 ∷ 10 ∷ []
 
 pub example : printed paper ≡ table
-unfolding printed textOf endOf byteOf keepByte lineEnds lineOf planLine planGood packetLine row saidFrom digitsOf planOk allBelow sendOf sendNumber senderOk nextSender chargeOf
+unfolding printed textOf endOf byteOf keepByte lineMade heard planLine planGood packetLine row saidFrom digitsOf planOk allBelow sendOf sendNumber senderOk countersOk nextSender chargeOf
 example = refl

@@ -1,4 +1,1 @@
-pub mod Text
-pub mod Table
 pub mod Session
-pub mod Rows

@@ -1,22 +1,20 @@
 -- The whole text, byte by byte: the open line is kept until its end, and each end of a line makes one line of table.
-use mathlib.Core.Bool.{Bool, true, false, _&&_, _||_, cond}
+use mathlib.Core.Bool.{Bool, true, false, cond}
 use mathlib.Core.List.{List, [], _∷_, _++_}
 use Prim.Native.Nat.{ℕ, suc, _+_, _-_}
 use lib.Dec.{ltb, leb, eqb}
 use lib.ListN.{length, take, set, replicate}
-use Rattle.sender.specs.Sender.{closed}
-use Rattle.session.specs.declared.Table.{Table}
+use Rattle.text.specs.Text.{lineFeed, Said, badText, said}
+use Rattle.table.specs.declared.Stage.{Stage}
+use Rattle.table.specs.declared.Stage.the-variants.{PlanToCome, Packets, Ended}
+use Rattle.table.specs.declared.Table.{Table}
+use Rattle.table.specs.Table.{mostText, Made, noTable, saidAt}
 use Rattle.session.specs.declared.Session.{Session}
-use Rattle.session.specs.Text.{lineFeed}
-use Rattle.session.specs.Table.{Made, refusedAt, lineOf}
 
--- no line that a session can hold is longer: nineteen numbers of ten digits, one space apart
+-- no line of text that can be good is longer: N, Max, K and the quanta of sixteen lines, nineteen numbers of ten digits, one space apart;
+-- `limits` of src/lib.rt ties it to the constant of `Session`
 abbrev pub mostLine : ℕ
 mostLine = 208
-
--- no line of table is longer
-abbrev pub mostText : ℕ
-mostText = 64
 
 pub record Fed : Type 0 where
   pub session : Session
@@ -27,15 +25,18 @@ abbrev pub openLine : Table → List ℕ → Session
 openLine t line = record { table = t; kept = 0; line = line }
 
 abbrev pub begun : Session
-begun = openLine (record { stage = 0; sender = closed; lines = 0; packets = 0 }) (replicate mostLine 0)
+begun = openLine noTable (replicate mostLine 0)
 
--- the open line ends; one that was too long is bad text
-abbrev pub ofMade : List ℕ → Made → Fed
-ofMade line m = record { session = openLine (m .table) line; text = m .text }
+-- what an open line of so many bytes says; one that was too long is bad text
+unfoldable pub heard : ℕ → List ℕ → Said
+heard kept line = cond (leb kept mostLine) (said (take kept line)) badText
 
-unfoldable pub lineEnds : Session → Fed
-lineEnds s =
-    ofMade (s .line) (cond (leb (s .kept) mostLine) (lineOf (s .table) (take (s .kept) (s .line))) (refusedAt (s .table) 1))
+-- the open line ends
+unfoldable pub lineMade : Session → Made
+lineMade s = saidAt (s .table .stage) (s .table) (heard (s .kept) (s .line))
+
+abbrev pub lineEnds : Session → Fed
+lineEnds s = record { session = openLine (lineMade s .table) (s .line); text = lineMade s .text }
 
 -- one more byte of the open line; past the longest line only that it is too long is kept
 unfoldable pub keepByte : Session → ℕ → Session
@@ -44,10 +45,15 @@ keepByte s b =
     (record { table = s .table; kept = s .kept + 1; line = set (s .line) (s .kept) b })
     (record { table = s .table; kept = mostLine + 1; line = s .line })
 
+abbrev pub hasEnded : Stage → Bool
+hasEnded PlanToCome = false
+hasEnded Packets = false
+hasEnded Ended = true
+
 -- one byte of text; a session that has ended takes no notice
 unfoldable pub byteOf : Session → ℕ → Fed
 byteOf s b =
-    cond (leb 2 (s .table .stage)) (record { session = s; text = [] })
+    cond (hasEnded (s .table .stage)) (record { session = s; text = [] })
     (cond (eqb b lineFeed) (lineEnds s) (record { session = keepByte s b; text = [] }))
 
 -- text x, and then what f makes
@@ -59,12 +65,15 @@ unfoldable pub textOf : Session → List ℕ → Fed
 textOf s [] = record { session = s; text = [] }
 textOf s (b ∷ bytes) = before (byteOf s b .text) (textOf (byteOf s b .session) bytes)
 
--- the end of the text: the last line may lack its line feed, and no text at all is one blank line (a line, whatever it says, ends stage 0)
+-- whether the end of the text ends a line, of which so many bytes were kept: no text at all is one blank line
+abbrev pub endsLine : Stage → ℕ → Bool
+endsLine PlanToCome kept = true
+endsLine Packets kept = leb 1 kept
+endsLine Ended kept = false
+
+-- the end of the text: the last line may lack its line feed
 unfoldable pub endOf : Session → Fed
-endOf s =
-    cond (leb 2 (s .table .stage) || (eqb (s .kept) 0 && leb 1 (s .table .stage)))
-    (record { session = s; text = [] })
-    (lineEnds s)
+endOf s = cond (endsLine (s .table .stage) (s .kept)) (lineEnds s) (record { session = s; text = [] })
 
 -- what a whole text prints
 unfoldable pub printed : List ℕ → List ℕ
@@ -88,9 +97,9 @@ feedOf s (b ∷ bytes) room =
     (oneMore (byteOf s b .text) (feedOf (byteOf s b .session) bytes (room - length (byteOf s b .text))))
 
 -- the end, where there is room for a line of table
-pub record Ended : Type 0 where
+pub record Last : Type 0 where
   pub done : Bool
   pub text : List ℕ
 
-unfoldable pub closeOf : Session → ℕ → Ended
+unfoldable pub closeOf : Session → ℕ → Last
 closeOf s room = cond (ltb room mostText) (record { done = false; text = [] }) (record { done = true; text = endOf s .text })

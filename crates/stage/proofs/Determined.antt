@@ -14,11 +14,12 @@ use contract.Monad.{Fun, fact}
 use denote.Triple.Clauses.{AtExit}
 use denote.Triple.Entry.{Args}
 use Rattle.numbers.proofs.Tight.{only}
-use Rattle.receiver.specs.declared.Receiver.{Receiver}
-use Rattle.receiver.specs.Arriving.{dataArrival, markerArrival}
-use Rattle.receiver.specs.Taking.{takeOf}
-use Rattle.receiver.specs.Takes.{takesOf}
-use Rattle.stage.specs.Exports.{openFrom, exportedTaken}
+use Rattle.receiving.specs.declared.Receiver.{Receiver}
+use Rattle.receiving.specs.Arriving.{Arrival, dataArrival, markerArrival}
+use Rattle.receiving.specs.Taking.{takeOf}
+use Rattle.receiving.specs.Takes.{takesOf}
+use Rattle.taking.specs.Words.{takenWord}
+use Rattle.stage.specs.Exports.{openFrom}
 use Rattle.stage.proofs.stage_open as thin-open
 use Rattle.stage.proofs.stage_data as thin-data
 use Rattle.stage.proofs.stage_marker as thin-marker
@@ -40,47 +41,36 @@ pub open-tight : (bytes : List ℕ) (size n n′ : ℕ) (next next′ : Receiver
     → (n ≡ n′) × (next ≡ next′)
 open-tight bytes size n n′ next next′ p q = (only (p .0) (q .0), only (p .1) (q .1))
 
--- ---- data that came: its number, and the receiver and the store as it leaves them
+-- ---- data or a marker that came, and is answered so: its number, and the receiver and the store as it leaves them
 
-abbrev DataSays : Receiver → ℕ → List ℕ → List ℕ → ℕ → Receiver → List ℕ → Type 0
-DataSays r line bytes store n next end =
-    (n ≡ dataArrival r line bytes store .arrived .number) × (next ≡ dataArrival r line bytes store .arrived .next)
-    × (end ≡ dataArrival r line bytes store .store)
+abbrev ArrivalSays : (Receiver → ℕ → List ℕ → List ℕ → Arrival) → Receiver → ℕ → List ℕ → List ℕ → ℕ → Receiver → List ℕ → Type 0
+ArrivalSays answered r line bytes store n next end =
+    (n ≡ answered r line bytes store .arrived .number) × (next ≡ answered r line bytes store .arrived .next) × (end ≡ answered r line bytes store .store)
 
 pub data-clause :
     {M : Type 1} (𝓤 : URA M) (H : Heap 𝓤) (A : Atoms 𝓤) (mem : Memory → SProp 𝓤) (run : Routine → Fun 𝓤) (κs : Lfts 3)
     (a : Args thin-data.signature κs) (n : ℕ) (e : AtExit thin-data.ended κs)
     → thin-data.clauses 𝓤 H A mem run κs a .ensures tt n e
-    ≡ fact 𝓤 (DataSays (a .0 .now) (a .1 .0) (a .1 .1 .0 .now) (a .1 .1 .1 .0 .now) n (e .0 .now) (e .1 .1 .1 .0 .now))
+    ≡ fact 𝓤 (ArrivalSays dataArrival (a .0 .now) (a .1 .0) (a .1 .1 .0 .now) (a .1 .1 .1 .0 .now) n (e .0 .now) (e .1 .1 .1 .0 .now))
 data-clause 𝓤 H A mem run κs a n e = refl
-
-pub data-tight : (r : Receiver) (line : ℕ) (bytes store : List ℕ) (n n′ : ℕ) (next next′ : Receiver) (end end′ : List ℕ)
-    → DataSays r line bytes store n next end → DataSays r line bytes store n′ next′ end′ → (n ≡ n′) × (next ≡ next′) × (end ≡ end′)
-data-tight r line bytes store n n′ next next′ end end′ p q = (only (p .0) (q .0), only (p .1) (q .1), only (p .2) (q .2))
-
--- ---- a marker that came: the same
-
-abbrev MarkerSays : Receiver → ℕ → List ℕ → List ℕ → ℕ → Receiver → List ℕ → Type 0
-MarkerSays r line bytes store n next end =
-    (n ≡ markerArrival r line bytes store .arrived .number) × (next ≡ markerArrival r line bytes store .arrived .next)
-    × (end ≡ markerArrival r line bytes store .store)
 
 pub marker-clause :
     {M : Type 1} (𝓤 : URA M) (H : Heap 𝓤) (A : Atoms 𝓤) (mem : Memory → SProp 𝓤) (run : Routine → Fun 𝓤) (κs : Lfts 3)
     (a : Args thin-marker.signature κs) (n : ℕ) (e : AtExit thin-marker.ended κs)
     → thin-marker.clauses 𝓤 H A mem run κs a .ensures tt n e
-    ≡ fact 𝓤 (MarkerSays (a .0 .now) (a .1 .0) (a .1 .1 .0 .now) (a .1 .1 .1 .0 .now) n (e .0 .now) (e .1 .1 .1 .0 .now))
+    ≡ fact 𝓤 (ArrivalSays markerArrival (a .0 .now) (a .1 .0) (a .1 .1 .0 .now) (a .1 .1 .1 .0 .now) n (e .0 .now) (e .1 .1 .1 .0 .now))
 marker-clause 𝓤 H A mem run κs a n e = refl
 
-pub marker-tight : (r : Receiver) (line : ℕ) (bytes store : List ℕ) (n n′ : ℕ) (next next′ : Receiver) (end end′ : List ℕ)
-    → MarkerSays r line bytes store n next end → MarkerSays r line bytes store n′ next′ end′ → (n ≡ n′) × (next ≡ next′) × (end ≡ end′)
-marker-tight r line bytes store n n′ next next′ end end′ p q = (only (p .0) (q .0), only (p .1) (q .1), only (p .2) (q .2))
+pub arrival-tight : (answered : Receiver → ℕ → List ℕ → List ℕ → Arrival) (r : Receiver) (line : ℕ) (bytes store : List ℕ) (n n′ : ℕ) (next next′ : Receiver)
+    (end end′ : List ℕ) → ArrivalSays answered r line bytes store n next end → ArrivalSays answered r line bytes store n′ next′ end′
+    → (n ≡ n′) × (next ≡ next′) × (end ≡ end′)
+arrival-tight answered r line bytes store n n′ next next′ end end′ p q = (only (p .0) (q .0), only (p .1) (q .1), only (p .2) (q .2))
 
 -- ---- a take: its word, and the receiver and the output as it leaves them
 
 abbrev TakeSays : Receiver → List ℕ → List ℕ → ℕ → Receiver → List ℕ → Type 0
 TakeSays r store out w next end =
-    (w ≡ exportedTaken (takeOf r store out .result .answer)) × (next ≡ takeOf r store out .result .next) × (end ≡ takeOf r store out .out)
+    (w ≡ takenWord (takeOf r store out .result .answer)) × (next ≡ takeOf r store out .result .next) × (end ≡ takeOf r store out .out)
 
 pub take-clause :
     {M : Type 1} (𝓤 : URA M) (H : Heap 𝓤) (A : Atoms 𝓤) (mem : Memory → SProp 𝓤) (run : Routine → Fun 𝓤) (κs : Lfts 3)

@@ -1,14 +1,13 @@
 // What the stage's driver, written in C, calls: the receiver that it holds. Each export copies the state out, calls one proved function, stores
 // the next state back and answers one number; include/stage.h is the other side. The definitions are in specs/Exports.antt.
-use receiver::Receiver;
-use receiver::ReceiverOpened;
-use receiver::Taken;
+use receiving::Receiver;
+use receiving::ReceiverOpened;
 ghost use mathlib.Core.Path.{_≡_};
-ghost use Prim.Native.Nat.{_<_, _^_};
-ghost use Rattle.receiver.specs.Arriving.{dataArrival, markerArrival};
-ghost use Rattle.receiver.specs.Taking.{takeOf};
-ghost use Rattle.receiver.specs.Takes.{wordOf, takesOf};
-ghost use Rattle.stage.specs.Exports.{openFrom, exportedTaken, codedTake};
+ghost use Rattle.receiving.specs.Arriving.{dataArrival, markerArrival};
+ghost use Rattle.receiving.specs.Taking.{takeOf};
+ghost use Rattle.receiving.specs.Takes.{takesOf};
+ghost use Rattle.taking.specs.Words.{takenWord};
+ghost use Rattle.stage.specs.Exports.{openFrom, codedTake};
 
 // A receiver opened on the plan of a record. A record that is refused reads as an all-zero plan, on which no receiver opens.
 fn open_from(bytes: &[u8], size: u32) -> ReceiverOpened
@@ -53,21 +52,6 @@ pub extern "C" fn stage_marker(r: &mut Receiver, line: u32, bytes: &[u8], store:
     a.number
 }
 
-// A take's answer as C gets it: what it was in the low two bits, its line in the next four, and above them a length, the bytes missing, or the
-// number of a refusal.
-fn word_of(t: Taken) -> u64
-    requires { ⌜ wordOf t < 2 ^ 64 ⌝ }
-    ensures { λ w. ⌜ w ≡ exportedTaken t ⌝ }
-{
-    match t {
-        Taken::Data(line, n) => 4 * line as u64 + 64 * n as u64,
-        Taken::Missing(line, missing) => 1 + 4 * line as u64 + 64 * missing,
-        Taken::Behind(line) => 2 + 4 * line as u64,
-        Taken::Waiting(line) => 3 + 4 * line as u64,
-        Taken::Refused(number) => 3 + 64 * number as u64,
-    }
-}
-
 // A take's word, and the next state.
 struct CodedTake {
     word: u64,
@@ -77,19 +61,19 @@ struct CodedTake {
 fn coded_take(r: Receiver, store: &[u8], out: &mut [u8]) -> CodedTake
     ensures { λ t. ⌜ (t ≡ codedTake r (now (store .entry)) (now (out .entry))) × (now (out .exit) ≡ takeOf r (now (store .entry)) (now (out .entry)) .out) ⌝ }
 {
-    let t = receiver::take(r, store, out);
+    let t = taking::take(r, store, out);
     let answer = t.answer;
     let next = t.next;
     CodedTake {
-        word: word_of(answer),
+        word: taking::word_of(answer),
         next,
     }
 }
 
-// The thin take: it updates the receiver that C holds.
+// The thin take: it updates the receiver that C holds, and answers the take's word.
 #[no_mangle]
 pub extern "C" fn stage_take(r: &mut Receiver, store: &[u8], out: &mut [u8]) -> u64
-    ensures { λ w. ⌜ (w ≡ exportedTaken (takeOf (now (r .entry)) (now (store .entry)) (now (out .entry)) .result .answer))
+    ensures { λ w. ⌜ (w ≡ takenWord (takeOf (now (r .entry)) (now (store .entry)) (now (out .entry)) .result .answer))
         × (now (r .exit) ≡ takeOf (now (r .entry)) (now (store .entry)) (now (out .entry)) .result .next)
         × (now (out .exit) ≡ takeOf (now (r .entry)) (now (store .entry)) (now (out .entry)) .out) ⌝ }
 {
@@ -112,7 +96,7 @@ pub extern "C" fn stage_takes(
         × (now (out .exit) ≡ takesOf (now (r .entry)) (now (store .entry)) (now (out .entry)) (now (log .entry)) .out)
         × (now (log .exit) ≡ takesOf (now (r .entry)) (now (store .entry)) (now (out .entry)) (now (log .entry)) .log) ⌝ }
 {
-    let t = receiver::take_run(*r, store, out, log);
+    let t = taking::take_run(*r, store, out, log);
     *r = t.next;
     t.taken
 }

@@ -28,9 +28,10 @@ fn pass(s: Session, bytes: &[u8]) -> Turn {
             };
         }
     }
+    let more = !session::ended(next);
     Turn {
         session: next,
-        more: next.table.stage < 2,
+        more,
     }
 }
 
@@ -50,7 +51,7 @@ fn one_read(s: Session) -> Turn {
 
 // The end of the text.
 fn last(s: Session) {
-    let mut out = [0u8; 64];
+    let mut out = [0u8; Session::MOST_TEXT];
     let closed = session::close(s, &mut out);
     let wrote = closed.wrote;
     io::write_all(STDOUT_FILENO, &out[..wrote]);

@@ -3,7 +3,7 @@
 use Prim.Native.Nat.{ℕ, zero, suc, _+_, _-_, _≤_, _<_}
 use mathlib.Core.Bool.{Bool, cond}
 use mathlib.Core.List.{List, [], _∷_, _++_}
-use mathlib.Core.Path.{_≡_, refl, ap, subst}
+use mathlib.Core.Path.{_≡_, refl, ap, _∙_, subst}
 use native.Mathlib.Nat.{le-trans, le-refl}
 use native.Mathlib.Decide.{decLt, ℕ-discrete}
 use native.Mathlib.Omega.{arith}
@@ -25,6 +25,14 @@ cond-eq {n} {k} a b h = ap (λ (t : Bool). cond t a b) (eq-eqb n k h)
 
 pub cond-ne : {n k : ℕ} (a b : ℕ) → (n ≡ k → ⊥) → cond (eqb n k) a b ≡ b
 cond-ne {n} {k} a b h = ap (λ (t : Bool). cond t a b) (ne-eqb n k h)
+
+-- what is carried depends on the packets so far alone
+pub carried-by-packets : (p : Plan) (a b : ℕ → ℕ) (n : ℕ) → ((m : ℕ) → m < n → a m ≡ b m) → carried p a n ≡ carried p b n
+unfolding carried
+carried-by-packets p a b zero same = refl
+carried-by-packets p a b (suc n) same =
+    ap (λ (v : ℕ → ℕ). charged p v (a n)) (carried-by-packets p a b n (λ m h. same m (omega arith)))
+    ∙ ap (charged p (carried p b n)) (same n (omega arith))
 
 pub total-snoc : (f : ℕ → List ℕ → ℕ) (xs : List Item) (x : Item) → total f (xs ++ (x ∷ [])) ≡ total f xs + total f (x ∷ [])
 total-snoc f [] x = omega arith

@@ -3,6 +3,7 @@ use Prim.Native.Nat.{ℕ, _+_, _-_, _/_, _≤_, _<_}
 use mathlib.Core.List.{List, [], _∷_, _++_, map}
 use mathlib.Core.Path.{_≡_}
 use lib.ListN.{length}
+use Rattle.numbers.specs.Wrap.{half}
 use Rattle.theory.specs.Sending.{Plan, rounds}
 use Rattle.theory.specs.Demands.{Fit}
 use Rattle.theory.specs.System.{Item, packet, marker, Line, State, opened, Step, send, ask, arrive, lose, take, positions, current, step}
@@ -69,7 +70,7 @@ Cleared p =
 abbrev pub nearHead : Plan → ℕ → Line → List Item → Type 0
 nearHead p i l [] = Unit {0}
 nearHead p i l (packet k x ∷ rest) = Unit {0}
-nearHead p i l (marker k m ∷ rest) = m / p .quantum i < l .position / p .quantum i + 2147483648
+nearHead p i l (marker k m ∷ rest) = m / p .quantum i < l .position / p .quantum i + half
 
 abbrev pub nearStep : Plan → State → Step → Type 0
 nearStep p s (send x) = Unit {0}
@@ -88,7 +89,7 @@ abbrev pub Window : Plan → Type 0
 Window p =
     (h : List Step) → Fit p (sizes (packets h)) (length (packets h)) → Near p opened h → (i : ℕ) → i < p .lines
     → (rounds p (positions (after p h)) (current p (after p h)) ≤ rounds p (positions (after p h)) i)
-    × (rounds p (positions (after p h)) i < rounds p (positions (after p h)) (current p (after p h)) + 2147483648)
+    × (rounds p (positions (after p h)) i < rounds p (positions (after p h)) (current p (after p h)) + half)
 
 -- what is promised of a plan's far end
 pub record FarEnd (p : Plan) : Type 0 where

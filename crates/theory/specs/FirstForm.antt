@@ -2,6 +2,7 @@
 use Prim.Native.Nat.{ℕ, zero, suc, _+_, _-_, _%_}
 use mathlib.Core.Bool.{Bool, _&&_, cond}
 use lib.Dec.{ltb, leb, eqb}
+use Rattle.numbers.specs.Wrap.{wrap}
 use Rattle.theory.specs.Sending.{Plan}
 
 pub record Figures : Type 0 where
@@ -28,7 +29,7 @@ unfoldable pub firstSend : Plan → Figures → ℕ → Figures
 firstSend p s length = record {
   line = cond (runsOut p s length) (cond (ltb (suc (s .line)) (p .lines)) (suc (s .line)) 0) (s .line);
   countdown = cond (completes p s length) (cond (eqb (s .countdown) 1) (p .interval) (s .countdown - 1)) (s .countdown);
-  round = change (s .round) (s .line) (cond (runsOut p s length) ((s .round (s .line) + 1) % 4294967296) (s .round (s .line)));
+  round = change (s .round) (s .line) (cond (runsOut p s length) ((s .round (s .line) + 1) % wrap) (s .round (s .line)));
   counter =
       change (s .counter) (s .line)
       (cond (runsOut p s length) (s .counter (s .line) + p .quantum (s .line) - p .charge (s .line) length) (s .counter (s .line) - p .charge (s .line) length));

@@ -3,6 +3,7 @@
 use Prim.Native.Nat.{ℕ, zero, suc, _+_, _-_, _/_, _%_}
 use mathlib.Core.Bool.{Bool, _&&_, cond}
 use lib.Dec.{ltb, eqb}
+use Rattle.numbers.specs.Wrap.{wrap}
 
 -- A plan: how many lines, each line's quantum, what a packet of so many bytes is charged on a line, the bytes of the largest packet,
 -- and the rounds from one set of markers to the next.
@@ -58,7 +59,7 @@ dueAfter p lengths n = ends p (carried p lengths n) (lengths n) && eqb (ended p 
 -- ---- a line's figures at a position, and the countdown to the markers once so many rounds have ended
 
 abbrev pub roundAt : ℕ → ℕ → ℕ
-roundAt q x = (x / q + 1) % 4294967296
+roundAt q x = (x / q + 1) % wrap
 
 abbrev pub counterAt : ℕ → ℕ → ℕ
 counterAt q x = q - x % q

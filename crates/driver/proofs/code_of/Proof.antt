@@ -6,16 +6,10 @@ use Rattle.driver.specs.Exports.{exported}
 use Rattle.driver.proofs.code_of.Statement.{statement}
 use Rattle.driver.proofs.code_of.Tie as tie
 
-enum-known-w : tie.Need-enum-known-w
-enum-known-w c = search needs
-
 cast-result : tie.Need-cast-result
 cast-result c =
     let w = c .before in
     omega (arith, w .before .before .pre, ap exported (w .w .given .1))
-
-enum-known-w-2 : tie.Need-enum-known-w-2
-enum-known-w-2 c = search needs
 
 add-result : tie.Need-add-result
 add-result c =
@@ -30,4 +24,4 @@ returns-2 c = sym (ap exported (c .before .w2 .given .1))
 
 pub code-of-spec : {M : Type 1} → statement M
 code-of-spec =
-    tie.close (tie.spec enum-known-w cast-result enum-known-w-2 add-result returns returns-2)
+    tie.close (tie.spec (λ c. search needs) cast-result (λ c. search needs) add-result returns returns-2)

@@ -6,17 +6,11 @@ use Rattle.driver.proofs.Small.{asked-small}
 use Rattle.driver.proofs.coded_marker.Statement.{statement}
 use Rattle.driver.proofs.coded_marker.Tie as tie
 
-marker-from-requires : tie.Need-marker-from-requires
-marker-from-requires c κs = search needs
-
 code-of-requires : tie.Need-code-of-requires
 code-of-requires c κs =
     let w = c .before .before in
     let a = w .before .before .before .args in
     rw (w .marker-from .ensures .0) (asked-small (a .s) (a .line) (a .out .now))
-
-same-length : tie.Need-same-length
-same-length c = search needs
 
 returns : tie.Need-returns
 returns c =
@@ -24,4 +18,4 @@ returns c =
     (c .code-of .ensures ∙ ap exported (w .marker-from .ensures .0), w .marker-from .ensures .1)
 
 pub coded-marker-spec : {M : Type 1} → statement M
-coded-marker-spec = tie.close (tie.spec marker-from-requires code-of-requires same-length returns)
+coded-marker-spec = tie.close (tie.spec (λ c κs. search needs) code-of-requires (λ c. search needs) returns)

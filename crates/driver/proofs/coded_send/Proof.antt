@@ -4,12 +4,12 @@ use native.Mathlib.Omega.{arith}
 use mathlib.Core.Bool.{true, false}
 use mathlib.Core.Path.{_≡_, refl, ap, sym, _∙_}
 use Prim.Native.Nat.{ℕ}
-use Rattle.sender.specs.declared.Sender.{Sender}
-use Rattle.sender.specs.declared.SendResult.{SendResult}
-use Rattle.sender.specs.declared.Sent.{Sent}
-use Rattle.sender.specs.declared.Sent.the-variants.{Went, Refused}
-use Rattle.sender.specs.Sender.{sendOf}
-use Rattle.sender.proofs.Laws.{line-small, number-small}
+use Rattle.sending.specs.declared.Sender.{Sender}
+use Rattle.sending.specs.declared.SendResult.{SendResult}
+use Rattle.sending.specs.declared.Sent.{Sent}
+use Rattle.sending.specs.declared.Sent.the-variants.{Went, Refused}
+use Rattle.sending.specs.Sender.{sendOf}
+use Rattle.sending.proofs.Laws.{line-small, number-small}
 use Rattle.driver.specs.Exports.{exportedSent, codedSend}
 use Rattle.driver.proofs.coded_send.Statement.{statement}
 use Rattle.driver.proofs.coded_send.Tie as tie
@@ -18,12 +18,6 @@ use Rattle.driver.proofs.coded_send.Tie as tie
 coded :
     (s : Sender) (n : ℕ) (r : SendResult) → r ≡ sendOf s n → (a : Sent) → r .answer ≡ a → (code : ℕ) → code ≡ exportedSent a → record { code = code; next = r .next } ≡ codedSend s n
 coded s n r e a f code g = rw (g, ← f, e)
-
-send-requires : tie.Need-send-requires
-send-requires c κs = search needs
-
-enum-known-answer : tie.Need-enum-known-answer
-enum-known-answer c = search needs
 
 add-t11 : tie.Need-add-t11
 add-t11 c =
@@ -38,9 +32,6 @@ returns c =
     let sent = a .before .before .before in
     let st = sent .before in
     coded (st .args .s) (st .args .length) (sent .send .result) (sent .send .ensures) (Went (a .answer .given .0 .0) true) (a .answer .given .1 ∙ ap (Went (a .answer .given .0 .0)) (c .if1 .taken)) _ refl
-
-enum-known-answer-2 : tie.Need-enum-known-answer-2
-enum-known-answer-2 c = search needs
 
 add-t12 : tie.Need-add-t12
 add-t12 c =
@@ -67,11 +58,11 @@ pub coded-send-spec : {M : Type 1} → statement M
 coded-send-spec =
     tie.close
     (tie.spec
-    send-requires
-    enum-known-answer
+    (λ c κs. search needs)
+    (λ c. search needs)
     add-t11
     returns
-    enum-known-answer-2
+    (λ c. search needs)
     add-t12
     returns-2
     returns-3)

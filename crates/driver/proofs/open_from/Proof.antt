@@ -2,18 +2,12 @@
 use borrow.Author.Needs.{needs}
 use mathlib.Core.Path.{ap, _∙_}
 use Rattle.plan.specs.declared.PlanRead.{PlanRead}
-use Rattle.sender.specs.Sender.{openOf}
+use Rattle.sending.specs.Sender.{openSender}
 use Rattle.driver.proofs.open_from.Statement.{statement}
 use Rattle.driver.proofs.open_from.Tie as tie
 
-read-plan-requires : tie.Need-read-plan-requires
-read-plan-requires c κs = search needs
-
-open-requires : tie.Need-open-requires
-open-requires c κs = search needs
-
 returns : tie.Need-returns
-returns c = c .«open» .ensures ∙ ap (λ (r : PlanRead). openOf (r .plan)) (c .before .before .read-plan .ensures)
+returns c = c .«open» .ensures ∙ ap (λ (r : PlanRead). openSender (r .plan)) (c .before .before .read-plan .ensures)
 
 pub open-from-spec : {M : Type 1} → statement M
-open-from-spec = tie.close (tie.spec read-plan-requires open-requires returns)
+open-from-spec = tie.close (tie.spec (λ c κs. search needs) (λ c κs. search needs) returns)

@@ -5,11 +5,8 @@ use Rattle.plan.specs.declared.PlanRead.{PlanRead}
 use Rattle.driver.proofs.stripes_check_plan.Statement.{statement}
 use Rattle.driver.proofs.stripes_check_plan.Tie as tie
 
-read-plan-requires : tie.Need-read-plan-requires
-read-plan-requires c κs = search needs
-
 returns : tie.Need-returns
 returns c = ap (λ (r : PlanRead). r .number) (c .read-plan .ensures)
 
 pub stripes-check-plan-spec : {M : Type 1} → statement M
-stripes-check-plan-spec = tie.close (tie.spec read-plan-requires returns)
+stripes-check-plan-spec = tie.close (tie.spec (λ c κs. search needs) returns)

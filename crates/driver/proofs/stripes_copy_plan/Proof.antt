@@ -11,20 +11,11 @@ use Rattle.driver.proofs.Small.{plan-small}
 use Rattle.driver.proofs.stripes_copy_plan.Statement.{statement}
 use Rattle.driver.proofs.stripes_copy_plan.Tie as tie
 
-read-plan-requires : tie.Need-read-plan-requires
-read-plan-requires c κs = search needs
-
-write-plan-requires : tie.Need-write-plan-requires
-write-plan-requires c κs = search needs
-
 code-of-requires : tie.Need-code-of-requires
 code-of-requires c κs =
     let w = c .before .before in
     let r = w .before .before .before in
     rw (w .write-plan .ensures .0) (plan-small (r .read-plan .result .plan) (r .before .before .before .args .out .now))
-
-same-length : tie.Need-same-length
-same-length c = search needs
 
 -- what the plan that was read is written as
 written-as : (r : PlanRead) (s out : List ℕ) → r ≡ planRead s → planWritten (r .plan) out ≡ copied s out
@@ -43,4 +34,4 @@ returns c =
 pub stripes-copy-plan-spec : {M : Type 1} → statement M
 stripes-copy-plan-spec =
     tie.close
-    (tie.spec read-plan-requires write-plan-requires code-of-requires same-length returns)
+    (tie.spec (λ c κs. search needs) (λ c κs. search needs) code-of-requires (λ c. search needs) returns)

@@ -39,10 +39,10 @@ use denote.Triple.Clauses.{ensured, lasts}
 use denote.Triple.Table.{entered, cited}
 use denote.Triple.Walked.{says, Stays, stay-none, stay-none-ref, gave-slice, walkOf, AllGo, goes-none, goes-none-ref, goes-gave-slice, Walks, ends-at, walked, walk-meets}
 use denote.Exit.{yes}
-use Rattle.sender.specs.declared.Sender.{Sender}
-use Rattle.sender.specs.Sender.{markerFrom}
-use Rattle.sender.proofs.Sender as T
-use Rattle.sender.proofs.Sender.Laws as T′
+use Rattle.sending.specs.declared.Sender.{Sender}
+use Rattle.sending.specs.Sender.{markerFrom}
+use Rattle.sending.proofs.Sender as T
+use Rattle.sending.proofs.Sender.Laws as T′
 use Rattle.driver.specs.Exports.{exported}
 use Rattle.driver.proofs.coded_marker as coded
 use Rattle.driver.proofs.coded_marker.Symbol as coded-def

@@ -41,12 +41,12 @@ use denote.Triple.Clauses.{ensured, lasts}
 use denote.Triple.Table.{entered, cited}
 use denote.Triple.Walked.{says, Stays, stay-ref, stay-none-slice, walkOf, AllGo, goes-none-slice, goes-ref, Walks, ends-at, walked, walk-meets}
 use denote.Exit.{yes}
-use Rattle.sender.specs.declared.Sender.{Sender}
-use Rattle.sender.specs.declared.SenderOpened.{SenderOpened}
-use Rattle.sender.proofs.Sender as T
-use Rattle.sender.proofs.Sender.Laws as T′
-use Rattle.sender.proofs.SenderOpened as S
-use Rattle.sender.proofs.SenderOpened.Laws as S′
+use Rattle.sending.specs.declared.Sender.{Sender}
+use Rattle.sending.specs.declared.SenderOpened.{SenderOpened}
+use Rattle.sending.proofs.Sender as T
+use Rattle.sending.proofs.Sender.Laws as T′
+use Rattle.sending.proofs.SenderOpened as S
+use Rattle.sending.proofs.SenderOpened.Laws as S′
 use Rattle.driver.specs.Exports.{openFrom}
 use Rattle.driver.proofs.open_from as from-bytes
 use Rattle.driver.proofs.open_from.Symbol as from-bytes-def

@@ -13,41 +13,8 @@ use Rattle.driver.proofs.stripes_read_marker.Tie as tie
 told : (c : tie.After-m) → markerRead (c .before .before .before .before .args .s .now) ≡ Whole (c .m .given .0 .0)
 told c = sym (c .before .before .read-marker .ensures) ∙ c .m .given .1
 
-read-marker-requires : tie.Need-read-marker-requires
-read-marker-requires c κs = search needs
-
-enum-known-m : tie.Need-enum-known-m
-enum-known-m c = search needs
-
-cast-result : tie.Need-cast-result
-cast-result c = search needs
-
-cast-result-2 : tie.Need-cast-result-2
-cast-result-2 c = search needs
-
-mul-result : tie.Need-mul-result
-mul-result c = search needs
-
-add-result : tie.Need-add-result
-add-result c = search needs
-
-cast-result-3 : tie.Need-cast-result-3
-cast-result-3 c = search needs
-
-mul-result-2 : tie.Need-mul-result-2
-mul-result-2 c = search needs
-
 add-result-2 : tie.Need-add-result-2
 add-result-2 c = omega (arith, read-in-range _ _ (told (c .before .before .before .before)))
-
-enum-known-number : tie.Need-enum-known-number
-enum-known-number c = search needs
-
-cast-result-4 : tie.Need-cast-result-4
-cast-result-4 c = search needs
-
-add-result-3 : tie.Need-add-result-3
-add-result-3 c = search needs
 
 returns : tie.Need-returns
 returns c = sym (ap exportedMarker (told (c .before .before .before .before)))
@@ -61,17 +28,17 @@ pub stripes-read-marker-spec : {M : Type 1} → statement M
 stripes-read-marker-spec =
     tie.close
     (tie.spec
-    read-marker-requires
-    enum-known-m
-    cast-result
-    cast-result-2
-    mul-result
-    add-result
-    cast-result-3
-    mul-result-2
+    (λ c κs. search needs)
+    (λ c. search needs)
+    (λ c. search needs)
+    (λ c. search needs)
+    (λ c. search needs)
+    (λ c. search needs)
+    (λ c. search needs)
+    (λ c. search needs)
     add-result-2
-    enum-known-number
-    cast-result-4
-    add-result-3
+    (λ c. search needs)
+    (λ c. search needs)
+    (λ c. search needs)
     returns
     returns-2)

@@ -13,20 +13,8 @@ use Rattle.driver.proofs.stripes_read_number.Tie as tie
 told : (c : tie.After-v) → readingOf 32 (c .before .before .before .before .args .s .now) ≡ Number (c .v .given .0 .0) (c .v .given .0 .1 .0)
 told c = sym (c .before .before .read-number .ensures) ∙ c .v .given .1
 
-read-number-requires : tie.Need-read-number-requires
-read-number-requires c κs = search needs
-
-enum-known-v : tie.Need-enum-known-v
-enum-known-v c = search needs
-
-enum-told : tie.Need-enum-told
-enum-told c = search needs
-
 returns : tie.Need-returns
 returns c = ap exportedReading (sym (c .enum-told .given .1) ∙ c .before .before .read-number .ensures)
-
-cast-result : tie.Need-cast-result
-cast-result c = search needs
 
 mul-result : tie.Need-mul-result
 mul-result c = omega (arith, reading-place _ _ _ (told (c .before)))
@@ -41,11 +29,11 @@ pub stripes-read-number-spec : {M : Type 1} → statement M
 stripes-read-number-spec =
     tie.close
     (tie.spec
-    read-number-requires
-    enum-known-v
-    enum-told
+    (λ c κs. search needs)
+    (λ c. search needs)
+    (λ c. search needs)
     returns
-    cast-result
+    (λ c. search needs)
     mul-result
     add-result
     returns-2)

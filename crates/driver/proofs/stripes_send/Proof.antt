@@ -39,9 +39,9 @@ use denote.Triple.Clauses.{ensured, lasts}
 use denote.Triple.Table.{entered, cited}
 use denote.Triple.Walked.{says, Stays, stay-ref, stay-none, walkOf, AllGo, goes-none, goes-ref, Walks, ends-at, walked, walk-meets}
 use denote.Exit.{yes}
-use Rattle.sender.specs.declared.Sender.{Sender}
-use Rattle.sender.proofs.Sender as T
-use Rattle.sender.proofs.Sender.Laws as T′
+use Rattle.sending.specs.declared.Sender.{Sender}
+use Rattle.sending.proofs.Sender as T
+use Rattle.sending.proofs.Sender.Laws as T′
 use Rattle.driver.specs.declared.CodedSend.{CodedSend}
 use Rattle.driver.specs.Exports.{codedSend}
 use Rattle.driver.proofs.CodedSend as S

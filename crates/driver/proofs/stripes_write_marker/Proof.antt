@@ -7,17 +7,11 @@ use Rattle.driver.proofs.Small.{written-small}
 use Rattle.driver.proofs.stripes_write_marker.Statement.{statement}
 use Rattle.driver.proofs.stripes_write_marker.Tie as tie
 
-write-marker-requires : tie.Need-write-marker-requires
-write-marker-requires c κs = search needs
-
 code-of-requires : tie.Need-code-of-requires
 code-of-requires c κs =
     let w = c .before .before in
     let a = w .before .before .before .args in
     rw (w .write-marker .ensures .0) (written-small (markerOf (a .line) (a .round) (a .counter)) (a .out .now))
-
-same-length : tie.Need-same-length
-same-length c = search needs
 
 returns : tie.Need-returns
 returns c =
@@ -26,4 +20,4 @@ returns c =
 
 pub stripes-write-marker-spec : {M : Type 1} → statement M
 stripes-write-marker-spec =
-    tie.close (tie.spec write-marker-requires code-of-requires same-length returns)
+    tie.close (tie.spec (λ c κs. search needs) code-of-requires (λ c. search needs) returns)

@@ -6,17 +6,11 @@ use Rattle.driver.proofs.Small.{value-small}
 use Rattle.driver.proofs.stripes_write_number.Statement.{statement}
 use Rattle.driver.proofs.stripes_write_number.Tie as tie
 
-write-number-requires : tie.Need-write-number-requires
-write-number-requires c κs = search needs
-
 code-of-requires : tie.Need-code-of-requires
 code-of-requires c κs =
     let w = c .before .before in
     let a = w .before .before .before .args in
     rw (w .write-number .ensures .0) (value-small (a .value) (a .out .now))
-
-same-length : tie.Need-same-length
-same-length c = search needs
 
 returns : tie.Need-returns
 returns c =
@@ -25,4 +19,4 @@ returns c =
 
 pub stripes-write-number-spec : {M : Type 1} → statement M
 stripes-write-number-spec =
-    tie.close (tie.spec write-number-requires code-of-requires same-length returns)
+    tie.close (tie.spec (λ c κs. search needs) code-of-requires (λ c. search needs) returns)

@@ -11,20 +11,14 @@ use Rattle.marker.proofs.checked.Tie as tie
 counter : (c : tie.Else1) → counterOk (c .before .before .args .m) ≡ true
 counter c = sym (c .before .in-range .ensures) ∙ not-false _ (c .if1 .left)
 
-in-range-requires : tie.Need-in-range-requires
-in-range-requires c κs = search needs
-
 returns : tie.Need-returns
 returns c = counter-bad (c .before .before .args .m) (sym (c .before .in-range .ensures) ∙ not-true _ (c .if1 .taken))
 
-cast-if2 : tie.Need-cast-if2
-cast-if2 c = search needs
-
 returns-2 : tie.Need-returns-2
-returns-2 c = line-bad _ (counter (c .before .before)) (c .if2 .taken)
+returns-2 c = line-bad (c .before .before .before .before .args .m) (counter (c .before .before)) (c .if2 .taken)
 
 returns-3 : tie.Need-returns-3
-returns-3 c = both-good _ (counter (c .before .before)) (c .if2 .left)
+returns-3 c = both-good (c .before .before .before .before .args .m) (counter (c .before .before)) (c .if2 .left)
 
 pub checked-spec : {M : Type 1} → statement M
-checked-spec = tie.close (tie.spec in-range-requires returns cast-if2 returns-2 returns-3)
+checked-spec = tie.close (tie.spec (λ c κs. search needs) returns (λ c. search needs) returns-2 returns-3)

@@ -43,12 +43,6 @@ ends-line c = place 32 (recordOf c) (line c) .1
 ends-round : (c : tie.After-round) → c .round .given .0 .1 .0 ≤ length (afterLine (c .before .before .before .before .before))
 ends-round c = place 32 (afterLine (c .before .before .before .before .before)) (round c) .1
 
-read-number-requires : tie.Need-read-number-requires
-read-number-requires c κs = search needs
-
-enum-known-line : tie.Need-enum-known-line
-enum-known-line c = search needs
-
 enum-told : tie.Need-enum-told
 enum-told c = search needs
 
@@ -62,18 +56,6 @@ sub-after-line c = omega (arith, ends-line (c .before))
 
 part-after-line-start : tie.Need-part-after-line-start
 part-after-line-start c = omega (arith, ends-line (c .before))
-
-part-after-line-end : tie.Need-part-after-line-end
-part-after-line-end c = search needs
-
-read-number-requires-2 : tie.Need-read-number-requires-2
-read-number-requires-2 c κs = search needs
-
-enum-known-round : tie.Need-enum-known-round
-enum-known-round c = search needs
-
-enum-told-2 : tie.Need-enum-told-2
-enum-told-2 c = search needs
 
 returns-2 : tie.Need-returns-2
 returns-2 c =
@@ -92,18 +74,6 @@ part-after-round-start c =
     let m = c .before in
     let l = m .before .before .before .before .before in
     rw (rest (l .line .given .0 .1 .0) (recordOf l)) (omega (arith, ends-round m))
-
-part-after-round-end : tie.Need-part-after-round-end
-part-after-round-end c = search needs
-
-read-number-requires-3 : tie.Need-read-number-requires-3
-read-number-requires-3 c κs = search needs
-
-enum-known-counter : tie.Need-enum-known-counter
-enum-known-counter c = search needs
-
-enum-told-3 : tie.Need-enum-told-3
-enum-told-3 c = search needs
 
 returns-3 : tie.Need-returns-3
 returns-3 c =
@@ -133,23 +103,23 @@ pub read-record-spec : {M : Type 1} → statement M
 read-record-spec =
     tie.close
     (tie.spec
-    read-number-requires
-    enum-known-line
+    (λ c κs. search needs)
+    (λ c. search needs)
     enum-told
     returns
     sub-after-line
     part-after-line-start
-    part-after-line-end
-    read-number-requires-2
-    enum-known-round
-    enum-told-2
+    (λ c. search needs)
+    (λ c κs. search needs)
+    (λ c. search needs)
+    (λ c. search needs)
     returns-2
     sub-after-round
     part-after-round-start
-    part-after-round-end
-    read-number-requires-3
-    enum-known-counter
-    enum-told-3
+    (λ c. search needs)
+    (λ c κs. search needs)
+    (λ c. search needs)
+    (λ c. search needs)
     returns-3
     returns-4
     returns-5)

@@ -6,28 +6,16 @@ use Rattle.marker.proofs.Laws.{line-not-written, counter-not-written, a
 use Rattle.marker.proofs.write_marker.Statement.{statement}
 use Rattle.marker.proofs.write_marker.Tie as tie
 
-cast-if1 : tie.Need-cast-if1
-cast-if1 c = search needs
-
 returns : tie.Need-returns
 returns c =
     let st = c .before .before .before in
     line-not-written (st .args .m) (st .args .out .now) (c .if1 .taken)
-
-in-range-requires : tie.Need-in-range-requires
-in-range-requires c κs = search needs
 
 returns-2 : tie.Need-returns-2
 returns-2 c =
     let l = c .before .before in
     let st = l .before .before .before in
     counter-not-written (st .args .m) (st .args .out .now) (l .if1 .left) (sym (c .before .in-range .ensures) ∙ not-true _ (c .if2 .taken))
-
-write-record-requires : tie.Need-write-record-requires
-write-record-requires c κs = search needs
-
-same-length : tie.Need-same-length
-same-length c = search needs
 
 returns-3 : tie.Need-returns-3
 returns-3 c =
@@ -41,10 +29,10 @@ pub write-marker-spec : {M : Type 1} → statement M
 write-marker-spec =
     tie.close
     (tie.spec
-    cast-if1
+    (λ c. search needs)
     returns
-    in-range-requires
+    (λ c κs. search needs)
     returns-2
-    write-record-requires
-    same-length
+    (λ c κs. search needs)
+    (λ c. search needs)
     returns-3)

@@ -30,12 +30,6 @@ last c = coded-small 32 (c .before .loop .left) (omega arith)
 loop-holds : tie.Need-loop-holds Inv-loop μ-loop
 loop-holds c = (omega arith, refl, refl, refl)
 
-add-out : tie.Need-add-out Inv-loop μ-loop
-add-out c = search needs
-
-cast-out : tie.Need-cast-out Inv-loop μ-loop
-cast-out c = search needs
-
 slice-write-out : tie.Need-slice-write-out Inv-loop μ-loop
 slice-write-out c = omega (arith, ap length (more c))
 
@@ -47,9 +41,6 @@ loop-less c = omega arith
 
 loop-again : tie.Need-loop-again Inv-loop μ-loop
 loop-again c = (omega arith, omega (arith, ap length (more c)), simp length-set (omega arith), rw add-one (rw (more c) at (c .before .loop .inv .3)))
-
-cast-out-2 : tie.Need-cast-out-2 Inv-loop μ-loop
-cast-out-2 c = search needs
 
 slice-write-out-2 : tie.Need-slice-write-out-2 Inv-loop μ-loop
 slice-write-out-2 c = omega (arith, ap length (last c))
@@ -70,13 +61,13 @@ put-spec =
     Inv-loop
     μ-loop
     loop-holds
-    add-out
-    cast-out
+    (λ c. search needs)
+    (λ c. search needs)
     slice-write-out
     add-to
     loop-less
     loop-again
-    cast-out-2
+    (λ c. search needs)
     slice-write-out-2
     add-result
     same-length

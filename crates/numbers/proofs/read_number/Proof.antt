@@ -1,15 +1,7 @@
--- `numbers::read_number` meets its contract: it is the reading up to the largest number of 32 bits. Assumes nothing.
-use Rattle.numbers.specs.Coding.{readingOf}
+-- `numbers::read_number` meets its contract: it is the reading of width 32. Assumes nothing.
 use borrow.Author.Needs.{needs}
 use Rattle.numbers.proofs.read_number.Statement.{statement}
 use Rattle.numbers.proofs.read_number.Tie as tie
 
-read-up-to-requires : tie.Need-read-up-to-requires
-read-up-to-requires c κs = search needs
-
-returns : tie.Need-returns
-unfolding readingOf
-returns c = c .read-up-to .ensures
-
 pub read-number-spec : {M : Type 1} → statement M
-read-number-spec = tie.close (tie.spec read-up-to-requires returns)
+read-number-spec = tie.close (tie.spec (λ c κs. search needs) (λ c. c .read-of-width .ensures))

@@ -27,28 +27,10 @@ adds c =
     let row = l .before .before .args .row .now in
     ap length (row-next row (l .loop .i) (omega arith)) ∙ simp length-append (omega (arith, c .number-length .ensures))
 
-loop-holds : tie.Need-loop-holds Inv-loop μ-loop
-loop-holds c = search needs
-
-mul-number-length : tie.Need-mul-number-length Inv-loop μ-loop
-mul-number-length c = search needs
-
-shared-slice-read-number-length : tie.Need-shared-slice-read-number-length Inv-loop μ-loop
-shared-slice-read-number-length c = search needs
-
-number-length-requires : tie.Need-number-length-requires Inv-loop μ-loop
-number-length-requires c κs = search needs
-
 add-n : tie.Need-add-n Inv-loop μ-loop
 add-n c =
     let st = c .before .before .before .before .before in
     omega (arith, adds c, row-size (st .args .row .now) (λ i. c .before .before .before .before .shared-slice-known .given i .fits))
-
-add-i : tie.Need-add-i Inv-loop μ-loop
-add-i c = search needs
-
-loop-less : tie.Need-loop-less Inv-loop μ-loop
-loop-less c = search needs
 
 loop-again : tie.Need-loop-again Inv-loop μ-loop
 loop-again c = (omega arith, omega (arith, adds c))
@@ -64,12 +46,12 @@ row-length-spec =
     (tie.spec
     Inv-loop
     μ-loop
-    loop-holds
-    mul-number-length
-    shared-slice-read-number-length
-    number-length-requires
+    (λ c. search needs)
+    (λ c. search needs)
+    (λ c. search needs)
+    (λ c κs. search needs)
     add-n
-    add-i
-    loop-less
+    (λ c. search needs)
+    (λ c. search needs)
     loop-again
     returns)

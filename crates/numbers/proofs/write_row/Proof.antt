@@ -34,9 +34,6 @@ more-length : (c : tie.In-loop Inv-loop μ-loop) →
     length (rowBytes (drop (l .loop .i) row)) ≡ length (coded 32 (getD row (l .loop .i) 0)) + length (rowBytes (drop (l .loop .i + 1) row))
 more-length c = ap length (more c) ∙ simp length-append
 
-row-length-requires : tie.Need-row-length-requires Inv-loop μ-loop
-row-length-requires c κs = search needs
-
 returns : tie.Need-returns Inv-loop μ-loop
 returns c =
     let st = c .before .before .before .before in
@@ -45,19 +42,10 @@ returns c =
 loop-holds : tie.Need-loop-holds Inv-loop μ-loop
 loop-holds c = (omega arith, omega (arith, c .before .row-length .ensures), refl, refl)
 
-mul-put : tie.Need-mul-put Inv-loop μ-loop
-mul-put c = search needs
-
-shared-slice-read-put : tie.Need-shared-slice-read-put Inv-loop μ-loop
-shared-slice-read-put c = search needs
-
 put-requires : tie.Need-put-requires Inv-loop μ-loop
 put-requires c κs =
     let l = c .before .before .before in
     omega (arith, more-length (c .before .before), l .before .if1 .left)
-
-add-i : tie.Need-add-i Inv-loop μ-loop
-add-i c = search needs
 
 loop-less : tie.Need-loop-less Inv-loop μ-loop
 loop-less c = omega arith
@@ -93,13 +81,13 @@ write-row-spec =
     (tie.spec
     Inv-loop
     μ-loop
-    row-length-requires
+    (λ c κs. search needs)
     returns
     loop-holds
-    mul-put
-    shared-slice-read-put
+    (λ c. search needs)
+    (λ c. search needs)
     put-requires
-    add-i
+    (λ c. search needs)
     loop-less
     loop-again
     same-length

@@ -32,15 +32,6 @@ one-more n i l h =
 loop-holds : tie.Need-loop-holds Inv-loop μ-loop
 loop-holds c = (omega arith, omega arith, sixteen c, none-yet (c .args .n) (take (c .args .n) (c .args .entries)))
 
-mul-kept : tie.Need-mul-kept Inv-loop μ-loop
-mul-kept c = search needs
-
-array-write-kept : tie.Need-array-write-kept Inv-loop μ-loop
-array-write-kept c = search needs
-
-add-i : tie.Need-add-i Inv-loop μ-loop
-add-i c = search needs
-
 loop-less : tie.Need-loop-less Inv-loop μ-loop
 loop-less c = omega arith
 
@@ -70,9 +61,9 @@ first-entries-spec =
     Inv-loop
     μ-loop
     loop-holds
-    mul-kept
-    array-write-kept
-    add-i
+    (λ c. search needs)
+    (λ c. search needs)
+    (λ c. search needs)
     loop-less
     loop-again
     returns)

@@ -20,25 +20,13 @@ max c = sym (c .before .in-range2 .ensures) ∙ not-false _ (c .if2 .left)
 interval : (c : tie.Else3) → inRange leastInterval (c .before .before .before .before .before .before .args .p .interval) mostInterval ≡ true
 interval c = sym (c .before .in-range3 .ensures) ∙ not-false _ (c .if3 .left)
 
-cast-in-range : tie.Need-cast-in-range
-cast-in-range c = search needs
-
-in-range-requires : tie.Need-in-range-requires
-in-range-requires c κs = search needs
-
 returns : tie.Need-returns
 returns c = lines-bad (c .before .before .args .p) (sym (c .before .in-range .ensures) ∙ not-true _ (c .if1 .taken))
-
-in-range-requires-2 : tie.Need-in-range-requires-2
-in-range-requires-2 c κs = search needs
 
 returns-2 : tie.Need-returns-2
 returns-2 c =
     let l = c .before .before in
     max-bad (l .before .before .args .p) (lines l) (sym (c .before .in-range2 .ensures) ∙ not-true _ (c .if2 .taken))
-
-in-range-requires-3 : tie.Need-in-range-requires-3
-in-range-requires-3 c κs = search needs
 
 returns-3 : tie.Need-returns-3
 returns-3 c =
@@ -62,12 +50,12 @@ pub plan-ok-spec : {M : Type 1} → statement M
 plan-ok-spec =
     tie.close
     (tie.spec
-    cast-in-range
-    in-range-requires
+    (λ c. search needs)
+    (λ c κs. search needs)
     returns
-    in-range-requires-2
+    (λ c κs. search needs)
     returns-2
-    in-range-requires-3
+    (λ c κs. search needs)
     returns-3
     quanta-ok-requires
     returns-4)

@@ -64,20 +64,8 @@ ends-interval c =
     let t = drop (m .max .given .0 .1 .0) (drop (l .lines .given .0 .1 .0) (recordOf l)) in
     place 32 t (kept leastInterval mostInterval (readingOf 32 t) (interval c) .0) .1
 
-cast-read-within : tie.Need-cast-read-within
-cast-read-within c = search needs
-
-read-within-requires : tie.Need-read-within-requires
-read-within-requires c κs = search needs
-
-enum-known-lines : tie.Need-enum-known-lines
-enum-known-lines c = search needs
-
 enum-told : tie.Need-enum-told
 enum-told c = search needs
-
-refused-requires : tie.Need-refused-requires
-refused-requires c κs = search needs
 
 returns : tie.Need-returns
 returns c =
@@ -89,21 +77,6 @@ sub-after-lines c = omega (arith, ends-lines (c .before))
 
 part-after-lines-start : tie.Need-part-after-lines-start
 part-after-lines-start c = omega (arith, ends-lines (c .before))
-
-part-after-lines-end : tie.Need-part-after-lines-end
-part-after-lines-end c = search needs
-
-read-within-requires-2 : tie.Need-read-within-requires-2
-read-within-requires-2 c κs = search needs
-
-enum-known-max : tie.Need-enum-known-max
-enum-known-max c = search needs
-
-enum-told-2 : tie.Need-enum-told-2
-enum-told-2 c = search needs
-
-refused-requires-2 : tie.Need-refused-requires-2
-refused-requires-2 c κs = search needs
 
 returns-2 : tie.Need-returns-2
 returns-2 c =
@@ -123,21 +96,6 @@ part-after-max-start c =
     let m = c .before in
     let l = m .before .before .before .before .before in
     rw (rest (l .lines .given .0 .1 .0) (recordOf l)) (omega (arith, ends-max m))
-
-part-after-max-end : tie.Need-part-after-max-end
-part-after-max-end c = search needs
-
-read-within-requires-3 : tie.Need-read-within-requires-3
-read-within-requires-3 c κs = search needs
-
-enum-known-interval : tie.Need-enum-known-interval
-enum-known-interval c = search needs
-
-enum-told-3 : tie.Need-enum-told-3
-enum-told-3 c = search needs
-
-refused-requires-3 : tie.Need-refused-requires-3
-refused-requires-3 c κs = search needs
 
 returns-3 : tie.Need-returns-3
 returns-3 c =
@@ -166,9 +124,6 @@ part-read-quanta-start c =
     let a = l .lines .given .0 .1 .0 in
     rw (rest a (recordOf l), rest (m .max .given .0 .1 .0) (drop a (recordOf l))) (omega (arith, ends-interval k))
 
-part-read-quanta-end : tie.Need-part-read-quanta-end
-part-read-quanta-end c = search needs
-
 read-quanta-requires : tie.Need-read-quanta-requires
 read-quanta-requires c κs =
     let l = c .before .before .before .before .before .before .before .before .before .before .before .before in
@@ -189,30 +144,30 @@ pub read-plan-spec : {M : Type 1} → statement M
 read-plan-spec =
     tie.close
     (tie.spec
-    cast-read-within
-    read-within-requires
-    enum-known-lines
+    (λ c. search needs)
+    (λ c κs. search needs)
+    (λ c. search needs)
     enum-told
-    refused-requires
+    (λ c κs. search needs)
     returns
     sub-after-lines
     part-after-lines-start
-    part-after-lines-end
-    read-within-requires-2
-    enum-known-max
-    enum-told-2
-    refused-requires-2
+    (λ c. search needs)
+    (λ c κs. search needs)
+    (λ c. search needs)
+    (λ c. search needs)
+    (λ c κs. search needs)
     returns-2
     sub-after-max
     part-after-max-start
-    part-after-max-end
-    read-within-requires-3
-    enum-known-interval
-    enum-told-3
-    refused-requires-3
+    (λ c. search needs)
+    (λ c κs. search needs)
+    (λ c. search needs)
+    (λ c. search needs)
+    (λ c κs. search needs)
     returns-3
     sub-read-quanta
     part-read-quanta-start
-    part-read-quanta-end
+    (λ c. search needs)
     read-quanta-requires
     returns-4)

@@ -42,32 +42,11 @@ ends c =
     let t = drop (l .loop .at) s in
     omega (arith, place 32 t (kept (l .loop .plan .max) mostQuantum (readingOf 32 t) (told c) .0) .1, length-drop (l .loop .at) s)
 
-cast-n : tie.Need-cast-n Inv-loop μ-loop
-cast-n c = search needs
-
 loop-holds : tie.Need-loop-holds Inv-loop μ-loop
 loop-holds c = (omega arith, omega arith, refl, simp sub-zero)
 
-sub-read-within : tie.Need-sub-read-within Inv-loop μ-loop
-sub-read-within c = search needs
-
-part-read-within-start : tie.Need-part-read-within-start Inv-loop μ-loop
-part-read-within-start c = search needs
-
-part-read-within-end : tie.Need-part-read-within-end Inv-loop μ-loop
-part-read-within-end c = search needs
-
-read-within-requires : tie.Need-read-within-requires Inv-loop μ-loop
-read-within-requires c κs = search needs
-
-enum-known-quantum : tie.Need-enum-known-quantum Inv-loop μ-loop
-enum-known-quantum c = search needs
-
 enum-told : tie.Need-enum-told Inv-loop μ-loop
 enum-told c = search needs
-
-refused-requires : tie.Need-refused-requires Inv-loop μ-loop
-refused-requires c κs = search needs
 
 returns : tie.Need-returns Inv-loop μ-loop
 returns c =
@@ -77,20 +56,8 @@ returns c =
     rw (l .loop .inv .2) (rw rest at (sym (c .before .before .before .read-within .ensures) ∙ c .before .enum-told .given .1)) in
     c .refused .ensures ∙ quantum-refused _ (l .loop .i) (l .loop .plan) (drop (l .loop .at) s) (c .before .before .before .before .before .loop-test .taken) nothing ∙ l .loop .inv .3
 
-mul-plan : tie.Need-mul-plan Inv-loop μ-loop
-mul-plan c = search needs
-
-element-write-plan : tie.Need-element-write-plan Inv-loop μ-loop
-element-write-plan c = search needs
-
 add-at : tie.Need-add-at Inv-loop μ-loop
 add-at c = omega (arith, ends (c .before))
-
-add-i : tie.Need-add-i Inv-loop μ-loop
-add-i c = search needs
-
-loop-less : tie.Need-loop-less Inv-loop μ-loop
-loop-less c = search needs
 
 loop-again : tie.Need-loop-again Inv-loop μ-loop
 loop-again c =
@@ -104,9 +71,6 @@ loop-again c =
       rw (← drop-drop d (l .loop .at) s)
           (quantum-next _ (l .loop .i) (l .loop .plan) (drop (l .loop .at) s) (c .before .before .before .before .before .loop-test .taken) q d (told (c .before)) ∙ l .loop .inv .3),
     )
-
-refused-requires-2 : tie.Need-refused-requires-2 Inv-loop μ-loop
-refused-requires-2 c κs = search needs
 
 returns-2 : tie.Need-returns-2 Inv-loop μ-loop
 returns-2 c =
@@ -129,22 +93,22 @@ read-quanta-spec =
     (tie.spec
     Inv-loop
     μ-loop
-    cast-n
+    (λ c. search needs)
     loop-holds
-    sub-read-within
-    part-read-within-start
-    part-read-within-end
-    read-within-requires
-    enum-known-quantum
+    (λ c. search needs)
+    (λ c. search needs)
+    (λ c. search needs)
+    (λ c κs. search needs)
+    (λ c. search needs)
     enum-told
-    refused-requires
+    (λ c κs. search needs)
     returns
-    mul-plan
-    element-write-plan
+    (λ c. search needs)
+    (λ c. search needs)
     add-at
-    add-i
-    loop-less
+    (λ c. search needs)
+    (λ c. search needs)
     loop-again
-    refused-requires-2
+    (λ c κs. search needs)
     returns-2
     returns-3)

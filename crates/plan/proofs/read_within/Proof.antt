@@ -12,12 +12,6 @@ told :
     (c : tie.After-v) → readingOf 32 (c .before .before .before .before .args .s .now) ≡ Number (c .v .given .0 .0) (c .v .given .0 .1 .0)
 told c = sym (c .before .before .read-number .ensures) ∙ c .v .given .1
 
-read-number-requires : tie.Need-read-number-requires
-read-number-requires c κs = search needs
-
-enum-known-v : tie.Need-enum-known-v
-enum-known-v c = search needs
-
 enum-told : tie.Need-enum-told
 enum-told c = search needs
 
@@ -25,9 +19,6 @@ returns : tie.Need-returns
 returns c =
     let st = c .before .before .before .before in
     within-nothing (st .args .low) (st .args .high) (readingOf 32 (st .args .s .now)) (sym (c .before .before .read-number .ensures) ∙ c .enum-told .given .1)
-
-in-range-requires : tie.Need-in-range-requires
-in-range-requires c κs = search needs
 
 returns-2 : tie.Need-returns-2
 returns-2 c =
@@ -45,10 +36,10 @@ pub read-within-spec : {M : Type 1} → statement M
 read-within-spec =
     tie.close
     (tie.spec
-    read-number-requires
-    enum-known-v
+    (λ c κs. search needs)
+    (λ c. search needs)
     enum-told
     returns
-    in-range-requires
+    (λ c κs. search needs)
     returns-2
     returns-3)

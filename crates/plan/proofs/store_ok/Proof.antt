@@ -13,15 +13,9 @@ returns : tie.Need-returns
 unfolding storeOk
 returns c = sym (empty-range (c .before .args .p .max + itemHead) (c .before .args .size) mostStore (omega arith))
 
-add-in-range : tie.Need-add-in-range
-add-in-range c = search needs
-
-in-range-requires : tie.Need-in-range-requires
-in-range-requires c κs = search needs
-
 returns-2 : tie.Need-returns-2
 unfolding storeOk
 returns-2 c = c .in-range .ensures
 
 pub store-ok-spec : {M : Type 1} → statement M
-store-ok-spec = tie.close (tie.spec returns add-in-range in-range-requires returns-2)
+store-ok-spec = tie.close (tie.spec returns (λ c. search needs) (λ c κs. search needs) returns-2)

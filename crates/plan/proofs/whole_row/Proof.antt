@@ -21,38 +21,8 @@ abbrev μ-loop : tie.MeasureT-loop
 sixteen : (st : tie.Start Inv-loop μ-loop) → length (st .args .t4) ≡ 16
 sixteen st = st .good .1 .1 .1 .0 .1 .0 .1
 
-array-write-row : tie.Need-array-write-row Inv-loop μ-loop
-array-write-row c = search needs
-
-array-write-row-2 : tie.Need-array-write-row-2 Inv-loop μ-loop
-array-write-row-2 c = search needs
-
-array-write-row-3 : tie.Need-array-write-row-3 Inv-loop μ-loop
-array-write-row-3 c = search needs
-
 loop-holds : tie.Need-loop-holds Inv-loop μ-loop
 loop-holds c = (omega arith, refl, refl)
-
-mul-row : tie.Need-mul-row Inv-loop μ-loop
-mul-row c = search needs
-
-array-read-row : tie.Need-array-read-row Inv-loop μ-loop
-array-read-row c = search needs
-
-add-row : tie.Need-add-row Inv-loop μ-loop
-add-row c = search needs
-
-mul-row-2 : tie.Need-mul-row-2 Inv-loop μ-loop
-mul-row-2 c = search needs
-
-array-write-row-4 : tie.Need-array-write-row-4 Inv-loop μ-loop
-array-write-row-4 c = search needs
-
-add-i : tie.Need-add-i Inv-loop μ-loop
-add-i c = search needs
-
-loop-less : tie.Need-loop-less Inv-loop μ-loop
-loop-less c = search needs
 
 loop-again : tie.Need-loop-again Inv-loop μ-loop
 loop-again c =
@@ -77,16 +47,16 @@ whole-row-spec =
     (tie.spec
     Inv-loop
     μ-loop
-    array-write-row
-    array-write-row-2
-    array-write-row-3
+    (λ c. search needs)
+    (λ c. search needs)
+    (λ c. search needs)
     loop-holds
-    mul-row
-    array-read-row
-    add-row
-    mul-row-2
-    array-write-row-4
-    add-i
-    loop-less
+    (λ c. search needs)
+    (λ c. search needs)
+    (λ c. search needs)
+    (λ c. search needs)
+    (λ c. search needs)
+    (λ c. search needs)
+    (λ c. search needs)
     loop-again
     returns)

@@ -20,22 +20,10 @@ take-fourth n a b c q = let e : n + 3 ≡ suc (suc (suc n)) = omega arith in rw 
 good : (c : tie.Else1) → planOk (c .before .before .before .args .p) ≡ true
 good c = sym (c .before .plan-ok .ensures) ∙ not-false _ (c .if1 .left)
 
-plan-ok-requires : tie.Need-plan-ok-requires
-plan-ok-requires c κs = search needs
-
 returns : tie.Need-returns
 returns c =
     let st = c .before .before .before in
     not-written (st .args .p) (st .args .out .now) (sym (c .before .plan-ok .ensures) ∙ not-true _ (c .if1 .taken))
-
-whole-row-requires : tie.Need-whole-row-requires
-whole-row-requires c κs = search needs
-
-cast-n : tie.Need-cast-n
-cast-n c = search needs
-
-add-n : tie.Need-add-n
-add-n c = search needs
 
 array-share-prefix-row : tie.Need-array-share-prefix-row
 array-share-prefix-row c =
@@ -50,12 +38,6 @@ slice-aggregate-write-row c =
     let all : length (w .whole-row .result) ≡ 19 = w .whole-row .ok .1 .0 .1 in
     sym (length-take-le (p .lines + 3) (w .whole-row .result) (omega (arith, in-range p (good e) .few-lines)))
 
-write-row-requires : tie.Need-write-row-requires
-write-row-requires c κs = search needs
-
-same-length : tie.Need-same-length
-same-length c = search needs
-
 returns-2 : tie.Need-returns-2
 returns-2 c =
     let w = c .before .before in
@@ -69,13 +51,13 @@ pub write-plan-spec : {M : Type 1} → statement M
 write-plan-spec =
     tie.close
     (tie.spec
-    plan-ok-requires
+    (λ c κs. search needs)
     returns
-    whole-row-requires
-    cast-n
-    add-n
+    (λ c κs. search needs)
+    (λ c. search needs)
+    (λ c. search needs)
     array-share-prefix-row
     slice-aggregate-write-row
-    write-row-requires
-    same-length
+    (λ c κs. search needs)
+    (λ c. search needs)
     returns-2)

@@ -8,20 +8,20 @@ use mathlib.Core.List.{List}
 use mathlib.Core.Path.{_≡_, ap, sym, _∙_}
 use Prim.Native.Nat.{ℕ, suc, _+_, _-_, _≤_, _<_}
 use lib.Dec.{eqb}
-use lib.ListN.{getD}
-use Rattle.receiver.specs.Receiver.{firstFrom, lineAt}
-use Rattle.receiver.proofs.Laws.{first-here, first-on, first-none}
+use Rattle.plan.specs.Plan.{at}
+use Rattle.receiving.specs.Receiver.{firstFrom, lineAt}
+use Rattle.receiving.proofs.Laws.{first-here, first-on, first-none}
 use Rattle.receiver.proofs.line_at.Statement.{statement}
 use Rattle.receiver.proofs.line_at.Tie as tie
 
 abbrev isAt : List ℕ → ℕ → ℕ → Bool
-isAt rounds round j = eqb (getD rounds j 0) round
+isAt rounds round j = eqb (at rounds j) round
 
 abbrev Inv-loop : tie.InvT-loop
-Inv-loop lines round rounds i₀ i = (i ≤ lines) × (firstFrom (isAt rounds round) (lines - i) i ≡ lineAt lines rounds round)
+Inv-loop lines rounds round i₀ i = (i ≤ lines) × (firstFrom (isAt rounds round) (lines - i) i ≡ lineAt lines (at rounds) round)
 
 abbrev μ-loop : tie.MeasureT-loop
-μ-loop lines round rounds i₀ i = lines - i
+μ-loop lines rounds round i₀ i = lines - i
 
 one-left : (n i : ℕ) → i < n → n - i ≡ suc (n - (i + 1))
 one-left n i h = omega arith
@@ -30,40 +30,25 @@ loop-holds : tie.Need-loop-holds Inv-loop μ-loop
 unfolding lineAt
 loop-holds c =
     let all-left : c .args .lines - 0 ≡ c .args .lines = omega arith in
-    (omega arith, ap (λ (n : ℕ). firstFrom (isAt (c .args .t2) (c .args .round)) n 0) all-left)
-
-cast-if1 : tie.Need-cast-if1 Inv-loop μ-loop
-cast-if1 c = search needs
-
-mul-if1 : tie.Need-mul-if1 Inv-loop μ-loop
-mul-if1 c = search needs
-
-array-read-if1 : tie.Need-array-read-if1 Inv-loop μ-loop
-array-read-if1 c = search needs
+    (omega arith, ap (λ (n : ℕ). firstFrom (isAt (c .args .rounds) (c .args .round)) n 0) all-left)
 
 returns : tie.Need-returns Inv-loop μ-loop
 returns c =
-    let l = c .before .before in
+    let l = c .before .before .before in
     let a = l .before .args in
-    let left = one-left (a .lines) (l .loop .i) (c .before .loop-test .taken) in
-    first-here (isAt (a .t2) (a .round)) (a .lines - (l .loop .i + 1)) (l .loop .i) (eq-eqb _ _ (c .if1 .taken))
-    ∙ ap (λ (n : ℕ). firstFrom (isAt (a .t2) (a .round)) n (l .loop .i)) (sym left) ∙ l .loop .inv .1
-
-add-i : tie.Need-add-i Inv-loop μ-loop
-add-i c = search needs
-
-loop-less : tie.Need-loop-less Inv-loop μ-loop
-loop-less c = omega arith
+    let left = one-left (a .lines) (l .loop .i) (c .before .before .loop-test .taken) in
+    first-here (isAt (a .rounds) (a .round)) (a .lines - (l .loop .i + 1)) (l .loop .i) (eq-eqb _ _ (sym (c .before .entry .ensures) ∙ c .if1 .taken))
+    ∙ ap (λ (n : ℕ). firstFrom (isAt (a .rounds) (a .round)) n (l .loop .i)) (sym left) ∙ l .loop .inv .1
 
 loop-again : tie.Need-loop-again Inv-loop μ-loop
 loop-again c =
-    let l = c .before .before in
+    let l = c .before .before .before in
     let a = l .before .args in
-    let left = one-left (a .lines) (l .loop .i) (c .before .loop-test .taken) in (
+    let left = one-left (a .lines) (l .loop .i) (c .before .before .loop-test .taken) in (
       omega arith,
-      ap (λ (k : ℕ). firstFrom (isAt (a .t2) (a .round)) (a .lines - (l .loop .i + 1)) k) (add-one (l .loop .i))
-          ∙ first-on (isAt (a .t2) (a .round)) (a .lines - (l .loop .i + 1)) (l .loop .i) (ne-eqb _ _ (c .if1 .left))
-          ∙ ap (λ (n : ℕ). firstFrom (isAt (a .t2) (a .round)) n (l .loop .i)) (sym left)
+      ap (λ (k : ℕ). firstFrom (isAt (a .rounds) (a .round)) (a .lines - (l .loop .i + 1)) k) (add-one (l .loop .i))
+          ∙ first-on (isAt (a .rounds) (a .round)) (a .lines - (l .loop .i + 1)) (l .loop .i) (ne-eqb _ _ (λ e. c .if1 .left (c .before .entry .ensures ∙ e)))
+          ∙ ap (λ (n : ℕ). firstFrom (isAt (a .rounds) (a .round)) n (l .loop .i)) (sym left)
           ∙ l .loop .inv .1,
     )
 
@@ -74,8 +59,8 @@ returns-2 c =
     let none : a .lines - l .loop .i ≡ 0 = omega arith in
     let here : a .lines ≡ l .loop .i = omega arith in
     here
-    ∙ first-none (isAt (a .t2) (a .round)) (l .loop .i)
-    ∙ ap (λ (n : ℕ). firstFrom (isAt (a .t2) (a .round)) n (l .loop .i)) (sym none)
+    ∙ first-none (isAt (a .rounds) (a .round)) (l .loop .i)
+    ∙ ap (λ (n : ℕ). firstFrom (isAt (a .rounds) (a .round)) n (l .loop .i)) (sym none)
     ∙ l .loop .inv .1
 
 pub line-at-spec : {M : Type 1} → statement M
@@ -85,11 +70,9 @@ line-at-spec =
     Inv-loop
     μ-loop
     loop-holds
-    cast-if1
-    mul-if1
-    array-read-if1
+    (λ c κs. search needs)
     returns
-    add-i
-    loop-less
+    (λ c. search needs)
+    (λ c. search needs)
     loop-again
     returns-2)

@@ -15,11 +15,5 @@ mul-due c = omega (arith, product (c .args .rounds) (c .args .quantum) (search n
 add-due : tie.Need-add-due
 add-due c = let fits : c .args .counter < 2 ^ 32 = search needs in omega (arith, product (c .args .rounds) (c .args .quantum) (search needs) (search needs))
 
-returns : tie.Need-returns
-returns c = search needs
-
-returns-2 : tie.Need-returns-2
-returns-2 c = search needs
-
 pub owed-spec : {M : Type 1} → statement M
-owed-spec = tie.close (tie.spec mul-due add-due returns returns-2)
+owed-spec = tie.close (tie.spec mul-due add-due (λ c. search needs) (λ c. search needs))

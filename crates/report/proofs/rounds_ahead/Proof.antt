@@ -4,11 +4,8 @@ use Rattle.report.proofs.Laws.{ahead-is}
 use Rattle.report.proofs.rounds_ahead.Statement.{statement}
 use Rattle.report.proofs.rounds_ahead.Tie as tie
 
-wrapping-sub-u32-requires : tie.Need-wrapping-sub-u32-requires
-wrapping-sub-u32-requires c κs = search needs
-
 returns : tie.Need-returns
 returns c = ahead-is _ _ (search needs) _ (search needs) (c .wrapping-sub-u32 .ensures)
 
 pub rounds-ahead-spec : {M : Type 1} → statement M
-rounds-ahead-spec = tie.close (tie.spec wrapping-sub-u32-requires returns)
+rounds-ahead-spec = tie.close (tie.spec (λ c κs. search needs) returns)

@@ -9,9 +9,6 @@ use Rattle.report.proofs.Laws.{far-behind, counter-behind, same-round, 
 use Rattle.report.proofs.tell.Statement.{statement}
 use Rattle.report.proofs.tell.Tie as tie
 
-rounds-ahead-requires : tie.Need-rounds-ahead-requires
-rounds-ahead-requires c κs = search needs
-
 returns : tie.Need-returns
 returns c = far-behind _ _ _ _ (rw (← c .before .rounds-ahead .ensures) (c .if1 .taken))
 
@@ -21,9 +18,6 @@ returns-2 c =
     let near = zero-ahead .before in
     let is = near .before .rounds-ahead .ensures in
     counter-behind _ _ _ _ (rw (← is) (near .if1 .left)) (rw (← is) (zero-ahead .if2 .taken)) (c .if3 .taken)
-
-owed-requires : tie.Need-owed-requires
-owed-requires c κs = search needs
 
 returns-3 : tie.Need-returns-3
 returns-3 c =
@@ -40,4 +34,4 @@ returns-3 c =
     (joined .if2 .came)
 
 pub tell-spec : {M : Type 1} → statement M
-tell-spec = tie.close (tie.spec rounds-ahead-requires returns returns-2 owed-requires returns-3)
+tell-spec = tie.close (tie.spec (λ c κs. search needs) returns returns-2 (λ c κs. search needs) returns-3)

@@ -21,9 +21,6 @@ counted c =
     let a = c .before .before .before .args in
     c .least .ensures ∙ sym (in-front-most (a .ring .now) (a .head) (a .n))
 
-least-requires : tie.Need-least-requires
-least-requires c κs = search needs
-
 returns : tie.Need-returns
 returns c =
     let a = c .before .before .before .before .args in
@@ -37,20 +34,8 @@ returns-2 c =
     let none : length s ≡ 0 = omega (arith, counted l) in
     onto-written s (a .out .now) 0 (sym none) (omega arith) (a .out .now) (onto-none s (a .out .now) none)
 
-cast-at : tie.Need-cast-at
-cast-at c = search needs
-
-add-at : tie.Need-add-at
-add-at c = search needs
-
-rem-at : tie.Need-rem-at
-rem-at c = search needs
-
 lift-requires : tie.Need-lift-requires
 lift-requires c κs = (mod-lt _ (omega arith), (omega arith, omega arith))
-
-same-length : tie.Need-same-length
-same-length c = search needs
 
 returns-3 : tie.Need-returns-3
 returns-3 c =
@@ -67,12 +52,12 @@ pub hand-out-spec : {M : Type 1} → statement M
 hand-out-spec =
     tie.close
     (tie.spec
-    least-requires
+    (λ c κs. search needs)
     returns
     returns-2
-    cast-at
-    add-at
-    rem-at
+    (λ c. search needs)
+    (λ c. search needs)
+    (λ c. search needs)
     lift-requires
-    same-length
+    (λ c. search needs)
     returns-3)

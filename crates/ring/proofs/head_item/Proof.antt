@@ -28,19 +28,10 @@ told-read c =
     let high = held-byte (a .ring .now) (a .head) (a .used) 2 (omega arith) ∙ sym (c .byte2 .ensures .0) in
     omega arith
 
-least-requires : tie.Need-least-requires
-least-requires c κs = search needs
-
-cast-if1 : tie.Need-cast-if1
-cast-if1 c = search needs
-
 returns : tie.Need-returns
 returns c =
     let a = c .before .before .before .args in
     too-few (held (a .ring .now) (a .head) (a .used)) (omega (arith, held-most (a .ring .now) (a .head) (a .used)))
-
-rem-at : tie.Need-rem-at
-rem-at c = search needs
 
 shared-slice-read-kind : tie.Need-shared-slice-read-kind
 shared-slice-read-kind c = place (c .before)
@@ -48,38 +39,14 @@ shared-slice-read-kind c = place (c .before)
 add-byte : tie.Need-add-byte
 add-byte c = omega (arith, place (c .before))
 
-rem-byte : tie.Need-rem-byte
-rem-byte c = search needs
-
 shared-slice-read-byte : tie.Need-shared-slice-read-byte
 shared-slice-read-byte c = mod-lt _ (omega arith)
-
-byte-requires : tie.Need-byte-requires
-byte-requires c κs = search needs
 
 add-byte-2 : tie.Need-add-byte-2
 add-byte-2 c = omega (arith, place (c .before .before .before))
 
-rem-byte-2 : tie.Need-rem-byte-2
-rem-byte-2 c = search needs
-
 shared-slice-read-byte-2 : tie.Need-shared-slice-read-byte-2
 shared-slice-read-byte-2 c = mod-lt _ (omega arith)
-
-byte-requires-2 : tie.Need-byte-requires-2
-byte-requires-2 c κs = search needs
-
-mul-n : tie.Need-mul-n
-mul-n c = search needs
-
-add-n : tie.Need-add-n
-add-n c = search needs
-
-cast-if2 : tie.Need-cast-if2
-cast-if2 c = search needs
-
-sub-if2 : tie.Need-sub-if2
-sub-if2 c = search needs
 
 returns-2 : tie.Need-returns-2
 returns-2 c =
@@ -102,22 +69,22 @@ pub head-item-spec : {M : Type 1} → statement M
 head-item-spec =
     tie.close
     (tie.spec
-    least-requires
-    cast-if1
+    (λ c κs. search needs)
+    (λ c. search needs)
     returns
-    rem-at
+    (λ c. search needs)
     shared-slice-read-kind
     add-byte
-    rem-byte
+    (λ c. search needs)
     shared-slice-read-byte
-    byte-requires
+    (λ c κs. search needs)
     add-byte-2
-    rem-byte-2
+    (λ c. search needs)
     shared-slice-read-byte-2
-    byte-requires-2
-    mul-n
-    add-n
-    cast-if2
-    sub-if2
+    (λ c κs. search needs)
+    (λ c. search needs)
+    (λ c. search needs)
+    (λ c. search needs)
+    (λ c. search needs)
     returns-2
     returns-3)

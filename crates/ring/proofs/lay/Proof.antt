@@ -22,20 +22,8 @@ abbrev μ-loop : tie.MeasureT-loop
 loop-holds : tie.Need-loop-holds Inv-loop μ-loop
 loop-holds c = (omega arith, refl, into-none (c .args .ring .now) (c .args .at) (omega arith))
 
-shared-slice-read-ring : tie.Need-shared-slice-read-ring Inv-loop μ-loop
-shared-slice-read-ring c = search needs
-
-add-ring : tie.Need-add-ring Inv-loop μ-loop
-add-ring c = search needs
-
-rem-ring : tie.Need-rem-ring Inv-loop μ-loop
-rem-ring c = search needs
-
 slice-write-ring : tie.Need-slice-write-ring Inv-loop μ-loop
 slice-write-ring c = rw (c .before .before .loop .inv .1) (mod-lt _ (omega arith))
-
-add-i : tie.Need-add-i Inv-loop μ-loop
-add-i c = search needs
 
 loop-less : tie.Need-loop-less Inv-loop μ-loop
 loop-less c = omega arith
@@ -65,11 +53,11 @@ lay-spec =
     Inv-loop
     μ-loop
     loop-holds
-    shared-slice-read-ring
-    add-ring
-    rem-ring
+    (λ c. search needs)
+    (λ c. search needs)
+    (λ c. search needs)
     slice-write-ring
-    add-i
+    (λ c. search needs)
     loop-less
     loop-again
     same-length

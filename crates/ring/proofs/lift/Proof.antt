@@ -21,20 +21,11 @@ abbrev μ-loop : tie.MeasureT-loop
 loop-holds : tie.Need-loop-holds Inv-loop μ-loop
 loop-holds c = (omega arith, refl, from-none (c .args .ring .now) (c .args .at) (c .args .out .now))
 
-add-out : tie.Need-add-out Inv-loop μ-loop
-add-out c = search needs
-
-rem-out : tie.Need-rem-out Inv-loop μ-loop
-rem-out c = search needs
-
 shared-slice-read-out : tie.Need-shared-slice-read-out Inv-loop μ-loop
 shared-slice-read-out c = mod-lt _ (omega arith)
 
 slice-write-out : tie.Need-slice-write-out Inv-loop μ-loop
 slice-write-out c = omega arith
-
-add-i : tie.Need-add-i Inv-loop μ-loop
-add-i c = search needs
 
 loop-less : tie.Need-loop-less Inv-loop μ-loop
 loop-less c = omega arith
@@ -65,11 +56,11 @@ lift-spec =
     Inv-loop
     μ-loop
     loop-holds
-    add-out
-    rem-out
+    (λ c. search needs)
+    (λ c. search needs)
     shared-slice-read-out
     slice-write-out
-    add-i
+    (λ c. search needs)
     loop-less
     loop-again
     same-length

@@ -28,39 +28,15 @@ returns c =
     let a = c .before .before .before .args in
     (no-room (length (a .ring .now)) (a .used) (length (a .bytes .now)) (omega arith), refl)
 
-cast-if2 : tie.Need-cast-if2
-cast-if2 c = search needs
-
 returns-2 : tie.Need-returns-2
 returns-2 c =
     let a = c .before .before .before .before .args in
     (no-room (length (a .ring .now)) (a .used) (length (a .bytes .now)) (omega arith), refl)
 
-cast-if3 : tie.Need-cast-if3
-cast-if3 c = search needs
-
-sub-if3 : tie.Need-sub-if3
-sub-if3 c = search needs
-
 returns-3 : tie.Need-returns-3
 returns-3 c =
     let a = c .before .before .before .before .before .args in
     (no-room (length (a .ring .now)) (a .used) (length (a .bytes .now)) (omega arith), refl)
-
-add-at : tie.Need-add-at
-add-at c = search needs
-
-rem-at : tie.Need-rem-at
-rem-at c = search needs
-
-cast-t15 : tie.Need-cast-t15
-cast-t15 c = search needs
-
-cast-t16 : tie.Need-cast-t16
-cast-t16 c = search needs
-
-slice-aggregate-lay : tie.Need-slice-aggregate-lay
-slice-aggregate-lay c = search needs
 
 -- the ring with the item's head laid in
 half-length : (c : tie.After-lay) → length (c .lay .last .0) ≡ length (c .before .before .before .before .before .before .before .before .args .ring .now)
@@ -74,23 +50,14 @@ lay-requires c κs =
     let e = c .before .before in
     (place e, omega (arith, room e))
 
-cast-lay : tie.Need-cast-lay
-cast-lay c = search needs
-
 add-lay : tie.Need-add-lay
 add-lay c = omega (arith, place (c .before .before .before .before .before .before))
-
-rem-lay : tie.Need-rem-lay
-rem-lay c = search needs
 
 lay-requires-2 : tie.Need-lay-requires-2
 lay-requires-2 c κs =
     let l = c .before .before .before in
     let e = l .before .before .before in
     (rw (half-length l) (mod-lt _ (omega (arith, room e))), omega (arith, half-length l, room e))
-
-same-length : tie.Need-same-length
-same-length c = search needs
 
 returns-4 : tie.Need-returns-4
 unfolding stored
@@ -111,20 +78,20 @@ store-spec =
     tie.close
     (tie.spec
     returns
-    cast-if2
+    (λ c. search needs)
     returns-2
-    cast-if3
-    sub-if3
+    (λ c. search needs)
+    (λ c. search needs)
     returns-3
-    add-at
-    rem-at
-    cast-t15
-    cast-t16
-    slice-aggregate-lay
+    (λ c. search needs)
+    (λ c. search needs)
+    (λ c. search needs)
+    (λ c. search needs)
+    (λ c. search needs)
     lay-requires
-    cast-lay
+    (λ c. search needs)
     add-lay
-    rem-lay
+    (λ c. search needs)
     lay-requires-2
-    same-length
+    (λ c. search needs)
     returns-4)

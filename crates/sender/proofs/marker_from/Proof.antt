@@ -5,16 +5,13 @@ use native.Mathlib.Omega.{arith}
 use mathlib.Core.Bool.{true}
 use mathlib.Core.Path.{_≡_, sym, _∙_}
 use Rattle.plan.proofs.Laws.{in-range}
-use Rattle.sender.specs.Sender.{senderOk}
-use Rattle.sender.proofs.Laws.{valid, state-not-asked, line-not-asked, as-asked}
+use Rattle.sending.specs.Sender.{senderOk}
+use Rattle.sending.proofs.Laws.{valid, state-not-asked, line-not-asked, as-asked}
 use Rattle.sender.proofs.marker_from.Statement.{statement}
 use Rattle.sender.proofs.marker_from.Tie as tie
 
 good : (c : tie.Else1) → senderOk (c .before .before .before .args .s) ≡ true
 good c = sym (c .before .sender-ok .ensures) ∙ not-false _ (c .if1 .left)
-
-sender-ok-requires : tie.Need-sender-ok-requires
-sender-ok-requires c κs = search needs
 
 returns : tie.Need-returns
 returns c =
@@ -27,9 +24,6 @@ returns-2 c =
     let st = g .before .before .before in
     line-not-asked (st .args .s) (st .args .line) (st .args .out .now) (good g) (c .if2 .taken)
 
-mul-t11 : tie.Need-mul-t11
-mul-t11 c = search needs
-
 array-read-t14 : tie.Need-array-read-t14
 array-read-t14 c =
     let l = c .before .before in
@@ -37,21 +31,12 @@ array-read-t14 c =
     let s = g .before .before .before .args .s in
     omega (arith, l .if2 .left, in-range (s .plan) (valid s (good g) .plan) .few-lines)
 
-mul-t15 : tie.Need-mul-t15
-mul-t15 c = search needs
-
 array-read-t18 : tie.Need-array-read-t18
 array-read-t18 c =
     let l = c .before .before in
     let g = l .before .before .before in
     let s = g .before .before .before .args .s in
     omega (arith, l .if2 .left, in-range (s .plan) (valid s (good g) .plan) .few-lines)
-
-write-record-requires : tie.Need-write-record-requires
-write-record-requires c κs = search needs
-
-same-length : tie.Need-same-length
-same-length c = search needs
 
 returns-3 : tie.Need-returns-3
 returns-3 c =
@@ -65,13 +50,13 @@ pub marker-from-spec : {M : Type 1} → statement M
 marker-from-spec =
     tie.close
     (tie.spec
-    sender-ok-requires
+    (λ c κs. search needs)
     returns
     returns-2
-    mul-t11
+    (λ c. search needs)
     array-read-t14
-    mul-t15
+    (λ c. search needs)
     array-read-t18
-    write-record-requires
-    same-length
+    (λ c κs. search needs)
+    (λ c. search needs)
     returns-3)

@@ -1,25 +1,17 @@
 -- `sender::open` meets its contract. Assumes nothing.
 use borrow.Author.Needs.{needs}
 use borrow.Author.Tests.{not-true, not-false}
-use mathlib.Core.Path.{sym, _∙_}
-use Rattle.sender.proofs.Laws.{not-opened, is-opened}
+use mathlib.Core.Path.{sym, ap, _∙_}
+use Rattle.sending.specs.declared.Sender.{Sender}
+use Rattle.sending.proofs.Laws.{not-opened, is-opened}
 use Rattle.sender.proofs.open.Statement.{statement}
 use Rattle.sender.proofs.open.Tie as tie
 
-plan-ok-requires : tie.Need-plan-ok-requires
-plan-ok-requires c κs = search needs
-
 returns : tie.Need-returns
-returns c = not-opened (c .before .before .args .p) (sym (c .before .plan-ok .ensures) ∙ not-true _ (c .if1 .taken))
-
-trim-requires : tie.Need-trim-requires
-trim-requires c κs = search needs
-
-cast-first-entries : tie.Need-cast-first-entries
-cast-first-entries c = search needs
-
-first-entries-requires : tie.Need-first-entries-requires
-first-entries-requires c κs = search needs
+returns c =
+    let n = c .before in
+    ap (λ (s : Sender). record { number = 1; sender = s }) (c .closed .ensures)
+    ∙ not-opened (n .before .before .args .p) (sym (n .before .plan-ok .ensures) ∙ not-true _ (n .if1 .taken))
 
 returns-2 : tie.Need-returns-2
 returns-2 c =
@@ -30,9 +22,10 @@ pub open-spec : {M : Type 1} → statement M
 open-spec =
     tie.close
     (tie.spec
-    plan-ok-requires
+    (λ c κs. search needs)
+    (λ c κs. search needs)
     returns
-    trim-requires
-    cast-first-entries
-    first-entries-requires
+    (λ c κs. search needs)
+    (λ c. search needs)
+    (λ c κs. search needs)
     returns-2)

@@ -5,9 +5,11 @@ use native.Mathlib.Omega.{arith}
 use mathlib.Core.Bool.{true}
 use mathlib.Core.Path.{_≡_, ap, sym, _∙_}
 use Rattle.plan.proofs.Laws.{InRange, in-range}
-use Rattle.plan.specs.Plan.{at}
-use Rattle.sender.specs.Sender.{senderOk, wentWith}
-use Rattle.sender.proofs.Laws.{Valid, valid, state-refused, none-refused, long-refused, uncovered-refused, covered-went, ready}
+use Rattle.plan.specs.declared.LinePlan.{LinePlan}
+use Rattle.plan.specs.Plan.{chargeOf}
+use Rattle.sending.specs.Sender.{senderOk, went, chargeNow}
+use Rattle.sending.proofs.Laws.{Valid, valid, state-refused, none-refused, long-refused, uncovered-refused, covered-went}
+use Rattle.sender.proofs.Readying.{ready}
 use Rattle.sender.proofs.send.Statement.{statement}
 use Rattle.sender.proofs.send.Tie as tie
 
@@ -21,31 +23,22 @@ known c = valid (c .before .before .args .s) (good c)
 planned : (c : tie.Else1) → InRange (c .before .before .args .s .plan)
 planned c = in-range (c .before .before .args .s .plan) (known c .plan)
 
-sender-ok-requires : tie.Need-sender-ok-requires
-sender-ok-requires c κs = search needs
-
-refused-requires : tie.Need-refused-requires
-refused-requires c κs = search needs
+-- what the packet is charged
+charged : (c : tie.After-charge) → let a = c .before .before .before .before .before .before .before .before .before .before .before .args in c .charge .result ≡ chargeNow (a .s) (a .length)
+charged c =
+    let a = c .before .before .before .before .before .before .before .before .before .before .before .args in
+    c .charge .ensures ∙ ap (λ (l : LinePlan). chargeOf l (a .length)) (c .before .line-plan .ensures)
 
 returns : tie.Need-returns
 returns c =
     let st = c .before .before .before in
     c .refused .ensures ∙ state-refused (st .args .s) (st .args .length) (sym (c .before .before .sender-ok .ensures) ∙ not-true _ (c .before .if1 .taken))
 
-refused-requires-2 : tie.Need-refused-requires-2
-refused-requires-2 c κs = search needs
-
 returns-2 : tie.Need-returns-2
 returns-2 c =
     let g = c .before .before .before in
     let st = g .before .before in
     c .refused2 .ensures ∙ none-refused (st .args .s) (st .args .length) (good g) (c .before .if2 .taken)
-
-cast-if3 : tie.Need-cast-if3
-cast-if3 c = search needs
-
-refused-requires-3 : tie.Need-refused-requires-3
-refused-requires-3 c κs = search needs
 
 returns-3 : tie.Need-returns-3
 returns-3 c =
@@ -54,86 +47,69 @@ returns-3 c =
     let st = g .before .before in
     c .refused3 .ensures ∙ long-refused (st .args .s) (st .args .length) (good g) (l .if2 .left) (c .before .if3 .taken)
 
-cast-i : tie.Need-cast-i
-cast-i c = search needs
-
-cast-charge : tie.Need-cast-charge
-cast-charge c = search needs
-
-charge-requires : tie.Need-charge-requires
-charge-requires c κs = search needs
-
-mul-if4 : tie.Need-mul-if4
-mul-if4 c = search needs
-
 array-read-if4 : tie.Need-array-read-if4
 array-read-if4 c =
-    let g = c .before .before .before .before .before .before .before .before in
+    let g = c .before .before .before .before .before .before .before .before .before in
     omega (arith, known g .is-line, planned g .few-lines)
-
-mul-if4-2 : tie.Need-mul-if4-2
-mul-if4-2 c = search needs
 
 array-read-if4-2 : tie.Need-array-read-if4-2
 array-read-if4-2 c =
-    let g = c .before .before .before .before .before .before .before .before in
+    let g = c .before .before .before .before .before .before .before .before .before in
     omega (arith, known g .is-line, planned g .few-lines)
 
 add-if4 : tie.Need-add-if4
 add-if4 c =
-    let g = c .before .before .before .before .before .before .before .before in
+    let g = c .before .before .before .before .before .before .before .before .before in
     let s = g .before .before .args .s in
     omega (arith, known g .counter-most (s .line) (known g .is-line), planned g .quantum-most (s .line) (known g .is-line))
-
-refused-requires-4 : tie.Need-refused-requires-4
-refused-requires-4 c κs = search needs
 
 returns-4 : tie.Need-returns-4
 returns-4 c =
     let k = c .before .before in
-    let m = k .before .before .before .before in
+    let m = k .before .before .before .before .before in
     let l = m .before .before in
     let g = l .before .before in
     let st = g .before .before in
     c .refused4 .ensures
-    ∙ uncovered-refused (st .args .s) (st .args .length) (good g) (l .if2 .left) (m .if3 .left) (rw (k .charge .ensures) at (c .before .if4 .taken))
+    ∙ uncovered-refused (st .args .s) (st .args .length) (good g) (l .if2 .left) (m .if3 .left) (rw (charged k) at (c .before .if4 .taken))
 
 go-requires : tie.Need-go-requires
 go-requires c κs =
-    let g = c .before .before .before .before .before .before .before .before .before in
+    let g = c .before .before .before .before .before .before .before .before .before .before in
     ready (g .before .before .args .s) (good g) (c .before .charge .result) (c .if4 .left)
 
 returns-5 : tie.Need-returns-5
 returns-5 c =
     let k = c .before .before in
-    let m = k .before .before .before .before in
+    let m = k .before .before .before .before .before in
     let l = m .before .before in
     let g = l .before .before in
     let st = g .before .before in
-    c .go .ensures ∙ ap (wentWith (st .args .s)) (k .charge .ensures)
-    ∙ covered-went (st .args .s) (st .args .length) (good g) (l .if2 .left) (m .if3 .left) (rw (k .charge .ensures) at (c .before .if4 .left))
+    c .go .ensures ∙ ap (went (st .args .s)) (charged k)
+    ∙ covered-went (st .args .s) (st .args .length) (good g) (l .if2 .left) (m .if3 .left) (rw (charged k) at (c .before .if4 .left))
 
 pub send-spec : {M : Type 1} → statement M
 send-spec =
     tie.close
     (tie.spec
-    sender-ok-requires
-    refused-requires
+    (λ c κs. search needs)
+    (λ c κs. search needs)
     returns
-    refused-requires-2
+    (λ c κs. search needs)
     returns-2
-    cast-if3
-    refused-requires-3
+    (λ c. search needs)
+    (λ c κs. search needs)
     returns-3
-    cast-i
-    cast-charge
-    charge-requires
-    mul-if4
+    (λ c. search needs)
+    (λ c κs. search needs)
+    (λ c. search needs)
+    (λ c κs. search needs)
+    (λ c. search needs)
     array-read-if4
-    mul-if4-2
+    (λ c. search needs)
     array-read-if4-2
     add-if4
-    refused-requires-4
+    (λ c κs. search needs)
     returns-4
     go-requires
     returns-5)

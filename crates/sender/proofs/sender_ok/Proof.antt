@@ -4,16 +4,12 @@ use borrow.Author.Tests.{not-true, not-false}
 use mathlib.Core.Bool.{true}
 use mathlib.Core.Path.{_≡_, sym, _∙_}
 use Rattle.plan.specs.Plan.{planOk}
-use Rattle.plan.proofs.Laws.{in-range}
-use Rattle.sender.proofs.Laws.{plan-bad, line-bad, countdown-bad, counters-left}
+use Rattle.sending.proofs.Laws.{plan-bad, line-bad, countdown-bad, counters-left}
 use Rattle.sender.proofs.sender_ok.Statement.{statement}
 use Rattle.sender.proofs.sender_ok.Tie as tie
 
 plan : (c : tie.Else1) → planOk (c .before .before .before .args .s .plan) ≡ true
 plan c = sym (c .before .plan-ok .ensures) ∙ not-false _ (c .if1 .left)
-
-plan-ok-requires : tie.Need-plan-ok-requires
-plan-ok-requires c κs = search needs
 
 returns : tie.Need-returns
 returns c = plan-bad (c .before .before .before .args .s) (sym (c .before .plan-ok .ensures) ∙ not-true _ (c .if1 .taken))
@@ -23,23 +19,15 @@ returns-2 c =
     let p = c .before .before .before in
     line-bad (p .before .before .before .args .s) (plan p) (c .if2 .taken)
 
-in-range-requires : tie.Need-in-range-requires
-in-range-requires c κs = search needs
-
 returns-3 : tie.Need-returns-3
 returns-3 c =
     let l = c .before .before in
     let p = l .before .before .before in
     countdown-bad (p .before .before .before .args .s) (plan p) (l .if2 .left) (sym (c .before .in-range .ensures) ∙ not-true _ (c .if3 .taken))
 
-counters-ok-requires : tie.Need-counters-ok-requires
-counters-ok-requires c κs =
-    let p = c .before .before .before .before .before in
-    in-range (p .before .before .before .args .s .plan) (plan p) .few-lines
-
 returns-4 : tie.Need-returns-4
 returns-4 c =
-    let k = c .before in
+    let k = c .before .before in
     let l = k .before .before in
     let p = l .before .before .before in
     c .counters-ok .ensures
@@ -49,10 +37,10 @@ pub sender-ok-spec : {M : Type 1} → statement M
 sender-ok-spec =
     tie.close
     (tie.spec
-    plan-ok-requires
+    (λ c κs. search needs)
     returns
     returns-2
-    in-range-requires
+    (λ c κs. search needs)
     returns-3
-    counters-ok-requires
+    (λ c κs. search needs)
     returns-4)

@@ -2,12 +2,13 @@
 use borrow.Author.Needs.{needs}
 use native.Mathlib.Nat.{sub-zero}
 use native.Mathlib.Omega.{arith}
-use mathlib.Core.Path.{_≡_, refl, ap, _∙_}
+use mathlib.Core.Path.{_≡_, refl, ap, sym, _∙_}
+use mathlib.Core.Bool.{false}
 use mathlib.Core.List.{List}
 use Prim.Native.Nat.{ℕ, _+_, _-_, _≤_}
 use lib.ListN.{length, getD, drop}
 use lib.Seq.{sets, length-sets}
-use Rattle.session.specs.Session.{Fed, lineEnds, byteOf, feedOf}
+use Rattle.session.specs.Session.{Fed, lineMade, hasEnded, byteOf, feedOf}
 use Rattle.session.proofs.Feeding.{byte-ended, byte-line, byte-kept, byte-over, Left, left-all, turn, line-ended, feed-done, feed-full, left-none}
 use Rattle.session.proofs.feed.Statement.{statement}
 use Rattle.session.proofs.feed.Tie as tie
@@ -36,82 +37,63 @@ onward c f after to e stored place =
     turn (feedOf (st .args .s) (st .args .bytes .now) (length (st .args .out .now))) (st .args .out .now) (l .loop .out) (st .args .bytes .now) (l .loop .used) (l .loop .wrote)
     (l .loop .session) (c .before .loop-test .taken) (omega (arith, c .if1 .left)) f after to e stored place (l .loop .inv .3)
 
+-- the session has not ended
+going : (c : tie.Else2 Inv-loop μ-loop) → hasEnded (c .before .before .before .before .before .before .loop .session .table .stage) ≡ false
+going c = sym (c .before .has-ended .ensures) ∙ c .if2 .left
+
 loop-holds : tie.Need-loop-holds Inv-loop μ-loop
 loop-holds c = (omega arith, omega arith, refl, rw sub-zero (left-all _ _))
 
-sub-if1 : tie.Need-sub-if1 Inv-loop μ-loop
-sub-if1 c = search needs
-
-shared-slice-read-b : tie.Need-shared-slice-read-b Inv-loop μ-loop
-shared-slice-read-b c = search needs
-
-add-used : tie.Need-add-used Inv-loop μ-loop
-add-used c = search needs
-
-loop-less : tie.Need-loop-less Inv-loop μ-loop
-loop-less c = search needs
-
 loop-again : tie.Need-loop-again Inv-loop μ-loop
 loop-again c =
-    let e = c .before .before in
+    let e = c .before .before .before .before in
     let l = e .before .before in
     let s = l .loop .session in
-    let b = getD (l .before .before .before .args .bytes .now) (l .loop .used) 0 in
-    (omega arith, l .loop .inv .1, l .loop .inv .2, onward e _ (l .loop .out) (l .loop .wrote) (byte-ended s b (c .if2 .taken)) refl (omega arith))
-
-end-line-requires : tie.Need-end-line-requires Inv-loop μ-loop
-end-line-requires c κs = search needs
-
-loop-less-2 : tie.Need-loop-less-2 Inv-loop μ-loop
-loop-less-2 c = search needs
+    let b = getD (l .before .before .before .args .bytes .now) (l .loop .used) 0 in (
+      omega arith,
+      l .loop .inv .1,
+      l .loop .inv .2,
+      onward e _ (l .loop .out) (l .loop .wrote) (byte-ended s b (sym (c .before .has-ended .ensures) ∙ c .if2 .taken)) refl (omega arith),
+    )
 
 loop-again-2 : tie.Need-loop-again-2 Inv-loop μ-loop
 loop-again-2 c =
-    let e = c .before .before .before .before .before .before .before .before in
+    let o = c .before .before .before .before .before .before in
+    let e = o .before .before .before .before in
     let l = e .before .before in
     let s = l .loop .session in
     let b = getD (l .before .before .before .args .bytes .now) (l .loop .used) 0 in
     let q = c .before .before .before .end-line .ensures in (
       omega (arith, e .before .loop-test .taken),
       omega (arith, q .1, q .3, e .if1 .left),
-      ap length (q .2) ∙ length-sets (l .loop .out) (l .loop .wrote) (lineEnds s .text) ∙ l .loop .inv .2,
-      onward e _ _ _ (byte-line s b (c .before .before .before .before .before .before .if2 .left) (c .before .before .before .before .before .if3 .taken) ∙ line-ended s _ (q .0)) (q .2) (q .1),
+      ap length (q .2) ∙ length-sets (l .loop .out) (l .loop .wrote) (lineMade s .text) ∙ l .loop .inv .2,
+      onward e _ _ _ (byte-line s b (going o) (c .before .before .before .before .before .if3 .taken) ∙ line-ended s _ (q .0)) (q .2) (q .1),
     )
-
-element-write-session : tie.Need-element-write-session Inv-loop μ-loop
-element-write-session c = search needs
-
-add-session : tie.Need-add-session Inv-loop μ-loop
-add-session c = search needs
-
-loop-less-3 : tie.Need-loop-less-3 Inv-loop μ-loop
-loop-less-3 c = search needs
 
 loop-again-3 : tie.Need-loop-again-3 Inv-loop μ-loop
 loop-again-3 c =
-    let e = c .before .before .before .before in
+    let o = c .before .before in
+    let e = o .before .before .before .before in
     let l = e .before .before in
     let s = l .loop .session in
     let b = getD (l .before .before .before .args .bytes .now) (l .loop .used) 0 in (
       omega arith,
       l .loop .inv .1,
       l .loop .inv .2,
-      onward e _ (l .loop .out) (l .loop .wrote) (byte-kept s b (c .before .before .if2 .left) (c .before .if3 .left) (c .if4 .taken)) refl (omega arith),
+      onward e _ (l .loop .out) (l .loop .wrote) (byte-kept s b (going o) (c .before .if3 .left) (c .if4 .taken)) refl (omega arith),
     )
-
-loop-less-4 : tie.Need-loop-less-4 Inv-loop μ-loop
-loop-less-4 c = search needs
 
 loop-again-4 : tie.Need-loop-again-4 Inv-loop μ-loop
 loop-again-4 c =
-    let e = c .before .before .before .before in
+    let o = c .before .before in
+    let e = o .before .before .before .before in
     let l = e .before .before in
     let s = l .loop .session in
     let b = getD (l .before .before .before .args .bytes .now) (l .loop .used) 0 in (
       omega arith,
       l .loop .inv .1,
       l .loop .inv .2,
-      onward e _ (l .loop .out) (l .loop .wrote) (byte-over s b (c .before .before .if2 .left) (c .before .if3 .left) (c .if4 .left)) refl (omega arith),
+      onward e _ (l .loop .out) (l .loop .wrote) (byte-over s b (going o) (c .before .if3 .left) (c .if4 .left)) refl (omega arith),
     )
 
 same-length : tie.Need-same-length Inv-loop μ-loop
@@ -145,19 +127,20 @@ feed-spec =
     Inv-loop
     μ-loop
     loop-holds
-    sub-if1
-    shared-slice-read-b
-    add-used
-    loop-less
+    (λ c. search needs)
+    (λ c. search needs)
+    (λ c. search needs)
+    (λ c κs. search needs)
+    (λ c. search needs)
     loop-again
-    end-line-requires
-    loop-less-2
+    (λ c κs. search needs)
+    (λ c. search needs)
     loop-again-2
-    element-write-session
-    add-session
-    loop-less-3
+    (λ c. search needs)
+    (λ c. search needs)
+    (λ c. search needs)
     loop-again-3
-    loop-less-4
+    (λ c. search needs)
     loop-again-4
     same-length
     returns

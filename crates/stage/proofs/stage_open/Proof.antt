@@ -41,12 +41,12 @@ use denote.Triple.Clauses.{ensured, lasts}
 use denote.Triple.Table.{entered, cited}
 use denote.Triple.Walked.{says, Stays, stay-ref, stay-none, stay-none-slice, walkOf, AllGo, goes-none, goes-none-slice, goes-ref, Walks, ends-at, walked, walk-meets}
 use denote.Exit.{yes}
-use Rattle.receiver.specs.declared.Receiver.{Receiver}
-use Rattle.receiver.specs.declared.ReceiverOpened.{ReceiverOpened}
-use Rattle.receiver.proofs.Receiver as T
-use Rattle.receiver.proofs.Receiver.Laws as T′
-use Rattle.receiver.proofs.ReceiverOpened as S
-use Rattle.receiver.proofs.ReceiverOpened.Laws as S′
+use Rattle.receiving.specs.declared.Receiver.{Receiver}
+use Rattle.receiving.specs.declared.ReceiverOpened.{ReceiverOpened}
+use Rattle.receiving.proofs.Receiver as T
+use Rattle.receiving.proofs.Receiver.Laws as T′
+use Rattle.receiving.proofs.ReceiverOpened as S
+use Rattle.receiving.proofs.ReceiverOpened.Laws as S′
 use Rattle.stage.specs.Exports.{openFrom}
 use Rattle.stage.proofs.open_from as from-bytes
 use Rattle.stage.proofs.open_from.Symbol as from-bytes-def

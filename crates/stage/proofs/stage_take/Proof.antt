@@ -41,10 +41,10 @@ use denote.Triple.Clauses.{ensured, lasts}
 use denote.Triple.Table.{entered, cited}
 use denote.Triple.Walked.{says, Stays, stay-ref, stay-none-slice, gave-slice, walkOf, AllGo, goes-ref, goes-none-slice, goes-gave-slice, Walks, ends-at, walked, walk-meets}
 use denote.Exit.{yes}
-use Rattle.receiver.specs.declared.Receiver.{Receiver}
-use Rattle.receiver.specs.Taking.{takeOf}
-use Rattle.receiver.proofs.Receiver as T
-use Rattle.receiver.proofs.Receiver.Laws as T′
+use Rattle.receiving.specs.declared.Receiver.{Receiver}
+use Rattle.receiving.specs.Taking.{takeOf}
+use Rattle.receiving.proofs.Receiver as T
+use Rattle.receiving.proofs.Receiver.Laws as T′
 use Rattle.stage.specs.declared.CodedTake.{CodedTake}
 use Rattle.stage.specs.Exports.{codedTake}
 use Rattle.stage.proofs.CodedTake as S

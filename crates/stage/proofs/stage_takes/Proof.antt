@@ -41,17 +41,17 @@ use denote.Triple.Clauses.{ensured, lasts}
 use denote.Triple.Table.{entered, cited}
 use denote.Triple.Walked.{says, Stays, stay-ref, stay-none-slice, gave-slice, walkOf, AllGo, goes-ref, goes-none-slice, goes-gave-slice, Walks, ends-at, walked, walk-meets}
 use denote.Exit.{yes}
-use Rattle.receiver.specs.declared.Receiver.{Receiver}
-use Rattle.receiver.specs.declared.TakesResult.{TakesResult}
-use Rattle.receiver.specs.Takes.{takesOf}
-use Rattle.receiver.proofs.Receiver as T
-use Rattle.receiver.proofs.Receiver.Laws as T′
-use Rattle.receiver.proofs.TakesResult as S
-use Rattle.receiver.proofs.TakesResult.Laws as S′
-use Rattle.receiver.proofs.take_run as run-of
-use Rattle.receiver.proofs.take_run.Symbol as run-of-def
-use Rattle.receiver.proofs.take_run.Symbol.{name as #run-of}
-use Rattle.receiver.proofs.take_run.Met as run-of-thm
+use Rattle.receiving.specs.declared.Receiver.{Receiver}
+use Rattle.receiving.specs.declared.TakesResult.{TakesResult}
+use Rattle.receiving.specs.Takes.{takesOf}
+use Rattle.receiving.proofs.Receiver as T
+use Rattle.receiving.proofs.Receiver.Laws as T′
+use Rattle.receiving.proofs.TakesResult as S
+use Rattle.receiving.proofs.TakesResult.Laws as S′
+use Rattle.taking.proofs.take_run as run-of
+use Rattle.taking.proofs.take_run.Symbol as run-of-def
+use Rattle.taking.proofs.take_run.Symbol.{name as #run-of}
+use Rattle.taking.proofs.take_run.Met as run-of-thm
 use Rattle.stage.proofs.stage_takes.Key.{name as #thin}
 use Rattle.stage.proofs.stage_takes as thin
 use Rattle.stage.proofs.stage_takes.Statement as stated
@@ -191,4 +191,4 @@ stage-takes-spec 𝓤 H 𝓜 𝓖 𝓡 =
     entered 𝓤 H (tripleOf 𝓤 H (𝓖 .A) thin.signature (thin.spec 𝓤 H (𝓖 .A) (𝓜 .mem) (𝓡 .run)))
     (tables 𝓤 H 𝓜 𝓡 code.env .C) (tables 𝓤 H 𝓜 𝓡 code.env .Λ) #thin code.function (code.unfolded 𝓤 H 𝓜 𝓡)
     (thin-meets 𝓤 H (𝓖 .A) (givenOf 𝓤 H 𝓜 𝓖) (𝓜 .mem) (𝓡 .run) (tablesOf 𝓤 H 𝓜 (tables 𝓤 H 𝓜 𝓡 code.env))
-    (cited 𝓤 H (RunOf 𝓤 H (𝓖 .A) (𝓜 .mem) (𝓡 .run)) 𝓜 𝓡 code.env #run-of run-of-def.routine code.calls-receiver·take-run (run-of-thm.met 𝓤 H 𝓜 𝓖 𝓡)))
+    (cited 𝓤 H (RunOf 𝓤 H (𝓖 .A) (𝓜 .mem) (𝓡 .run)) 𝓜 𝓡 code.env #run-of run-of-def.routine code.calls-taking·take-run (run-of-thm.met 𝓤 H 𝓜 𝓖 𝓡)))

@@ -1,5 +1,0 @@
-pub mod Receiver
-pub mod Arriving
-pub mod Taking
-pub mod Takes
-pub mod History

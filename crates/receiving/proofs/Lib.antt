@@ -1,0 +1,14 @@
+pub mod Lines
+pub mod Laws
+pub mod Stores
+pub mod Arrivals
+pub mod Taking
+pub mod Stages
+pub mod Storing
+pub mod Steps
+pub mod Valid
+pub mod Runs
+pub mod Heads
+pub mod Dropping
+pub mod Opening
+pub mod Promises

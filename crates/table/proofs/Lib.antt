@@ -1,0 +1,3 @@
+mod Printing
+pub mod Making
+mod Determined

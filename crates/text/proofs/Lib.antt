@@ -1,0 +1,4 @@
+mod Reading
+pub mod Printing
+pub mod Promises
+mod Determined
