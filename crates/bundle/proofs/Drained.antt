@@ -41,7 +41,7 @@ step-says end out i (packet k b ∷ rest) x room = go (leb (length b) (length ou
 step-says end out i (marker k m ∷ rest) x room = refl
 
 -- a queue without packets, as the ring holds it
-pub none-queued : (p : Plan) (i : ℕ) (items : List Item) → W.NoPacket items → NoPacket (map (entryOf p i) items)
+pub none-queued : (p : Plan) (i : ℕ) (items : List Item) → W.NoPacketIn items → NoPacket (map (entryOf p i) items)
 none-queued p i [] none = tt
 none-queued p i (packet k x ∷ rest) none = absurd none
 none-queued p i (marker k m ∷ rest) none = (λ e. omega arith, none-queued p i rest none)
@@ -69,8 +69,8 @@ module _ (p : Plan) (size : ℕ) (store : List ℕ) (o : Opens p size store) whe
   near-first : (h : List Call) (e : Call) (g : List Call) → Near p size store (h ++ (e ∷ g)) → Near p size store (andThen h e)
   near-first h e g near =
       let same : andThen h e ++ g ≡ h ++ (e ∷ g) = append-assoc h (e ∷ []) g in
-      near-split plan (logOf p size store (andThen h e)) (log (world (andThen h e)) g) T.opened
-      (subst (F.Near plan T.opened) (log-append (andThen h e) g (opened p size store)) (rw same near)) .0
+      near-split plan (logOf p size store (andThen h e)) (log (world (andThen h e)) g) T.atOpening
+      (subst (F.Near plan T.atOpening) (log-append (andThen h e) g (opened p size store)) (rw same near)) .0
 
   takes-log : (outs : List (List ℕ)) (h : List Call) → Near p size store (h ++ map takes outs) → Roomy (world h) outs
       → log (world h) (map takes outs) ≡ W.takes (length outs)
@@ -90,7 +90,7 @@ module _ (p : Plan) (size : ℕ) (store : List ℕ) (o : Opens p size store) whe
   pub queued : (h : List Call) → Near p size store h → (i : ℕ) → i < p .lines → queue (world h) i ≡ map (entryOf (trimmed p) i) (state h .line i .store)
   queued h near i line = read-back _ _ _ _ (reaches p size store o h near .meets .far .holds i line)
 
-  held-below : (h : List Call) → Near p size store h → (n : ℕ) → n ≤ p .lines → heldBelow (world h) n ≡ W.heldBelow (state h .line) n
+  held-below : (h : List Call) → Near p size store h → (n : ℕ) → n ≤ p .lines → heldBelow (world h) n ≡ W.storedBelow (state h .line) n
   held-below h near zero few = refl
   held-below h near (suc n) few =
       let one : length (queue (world h) n) ≡ length (state h .line n .store) = ap length (queued h near n few) ∙ length-map (state h .line n .store) (entryOf (trimmed p) n) in
@@ -98,10 +98,10 @@ module _ (p : Plan) (size : ℕ) (store : List ℕ) (o : Opens p size store) whe
 
   -- as many takes with room as items held
   pub drained : (h : List Call) (outs : List (List ℕ)) → length outs ≡ heldBelow (world h) (p .lines) → Roomy (world h) outs → Near p size store (h ++ map takes outs)
-      → logOf p size store (h ++ map takes outs) ≡ logOf p size store h ++ W.takes (W.heldBelow (state h .line) (p .lines))
+      → logOf p size store (h ++ map takes outs) ≡ logOf p size store h ++ W.takes (W.storedBelow (state h .line) (p .lines))
   drained h outs many room near =
-      let before = near-split plan (logOf p size store h) (log (world h) (map takes outs)) T.opened
-      (subst (F.Near plan T.opened) (log-append h (map takes outs) (opened p size store)) near) .0 in
+      let before = near-split plan (logOf p size store h) (log (world h) (map takes outs)) T.atOpening
+      (subst (F.Near plan T.atOpening) (log-append h (map takes outs) (opened p size store)) near) .0 in
       log-append h (map takes outs) (opened p size store)
       ∙ ap (λ (l : List Step). logOf p size store h ++ l) (takes-log outs h near room)
       ∙ ap (λ (n : ℕ). logOf p size store h ++ W.takes n) (many ∙ held-below h before (p .lines) (le-refl (p .lines)))

@@ -24,7 +24,7 @@ use Rattle.receiving.specs.declared.Receiver.{Receiver}
 use Rattle.receiving.specs.declared.Taken.the-variants.{Waiting}
 use Rattle.receiving.specs.Receiver.{turnOf, lineOf, withTurn, roundOf, lineAt, currentLine}
 use Rattle.receiving.specs.Taking.{Stepped, itemOn, stepOf, roundNow, TakeOutcome, taken, takeOf}
-use Rattle.receiving.specs.Stage.{Stage, stage, takenBy}
+use Rattle.receiving.specs.Stage.{Stage, stage, takenFrom}
 use Rattle.receiving.proofs.Lines.{turn-same, turn-other}
 use Rattle.receiving.proofs.Stages.{HoldsOn}
 use Rattle.receiving.proofs.Valid.{take-valid}
@@ -37,7 +37,7 @@ use Rattle.bundle.proofs.Meeting.{turnAt, theirs, AllFit, Shows, Meets}
 use Rattle.bundle.proofs.Currents.{Within, line-is, round-is}
 
 -- a take leaves the rest of its queue
-head-goes : (p : Plan) (i : ℕ) (x : Item) (rest : List Item) (l : T.Line) → T.takeOf (theirs p) i (x ∷ rest) l .store ≡ rest
+head-goes : (p : Plan) (i : ℕ) (x : Item) (rest : List Item) (l : T.Line) → T.lineTaken (theirs p) i (x ∷ rest) l .store ≡ rest
 head-goes p i (packet k b) rest l = refl
 head-goes p i (marker k m) rest l = refl
 
@@ -107,11 +107,11 @@ module _ (p : Plan) (good : planOk p ≡ true) (some : 1 ≤ p .lines) (w : Worl
 
     -- the item in front, x, is taken, its line goes to position y, and its turn becomes that of y
     module _ (out : List ℕ) (x : Item) (rest : List Item) (e : s .line c .store ≡ x ∷ rest)
-        (y : ℕ) (to : T.takeOf (theirs p) c (x ∷ rest) (s .line c) .position ≡ y)
+        (y : ℕ) (to : T.lineTaken (theirs p) c (x ∷ rest) (s .line c) .position ≡ y)
         (up : s .line c .position ≤ y) (near : y / quantum p c < s .line c .position / quantum p c + half)
         (did : Stepped) (is : takeOf r (w .store) out ≡ taken r c did)
         (turn : did .step .line .turn ≡ turnAt (quantum p c) y)
-        (one : (j : ℕ) → takenBy j (did .step .answer) ≡ cond (eqb c j) 1 0)
+        (one : (j : ℕ) → takenFrom j (did .step .answer) ≡ cond (eqb c j) 1 0)
       where
         abbrev took : TakeOutcome
         took = takeOf r (w .store) out
@@ -119,8 +119,8 @@ module _ (p : Plan) (good : planOk p ≡ true) (some : 1 ≤ p .lines) (w : Worl
         abbrev left : Stage
         left = stage (took .result .next) (w .store)
 
-        now : fetched (theirs p) c (s .line c) ≡ T.takeOf (theirs p) c (x ∷ rest) (s .line c)
-        now = ap (λ (items : List Item). T.takeOf (theirs p) c items (s .line c)) e
+        now : fetched (theirs p) c (s .line c) ≡ T.lineTaken (theirs p) c (x ∷ rest) (s .line c)
+        now = ap (λ (items : List Item). T.lineTaken (theirs p) c items (s .line c)) e
 
         position-now : fetched (theirs p) c (s .line c) .position ≡ y
         position-now = ap (λ (l : T.Line). l .position) now ∙ to
@@ -152,10 +152,10 @@ module _ (p : Plan) (good : planOk p ≡ true) (some : 1 ≤ p .lines) (w : Worl
             (λ j d l. turn-other (r .turns) c (did .step .line .turn) j (λ q. d (sym q)) ∙ m .far .turns j l)
 
         -- one item is gone from the line that was taken from, none from another
-        gone : (j : ℕ) (t : Bool) → eqb c j ≡ t → takenBy j (took .result .answer) ≡ cond t 1 0
-        gone j t q = ap (λ (o : TakeOutcome). takenBy j (o .result .answer)) is ∙ one j ∙ ap (λ (u : Bool). cond u 1 0) q
+        gone : (j : ℕ) (t : Bool) → eqb c j ≡ t → takenFrom j (took .result .answer) ≡ cond t 1 0
+        gone j t q = ap (λ (o : TakeOutcome). takenFrom j (o .result .answer)) is ∙ one j ∙ ap (λ (u : Bool). cond u 1 0) q
 
-        less : (j n : ℕ) → takenBy j (took .result .answer) ≡ n → j < p .lines → HoldsOn j left (drop n (map (entryOf p j) (s .line j .store)))
+        less : (j n : ℕ) → takenFrom j (took .result .answer) ≡ n → j < p .lines → HoldsOn j left (drop n (map (entryOf p j) (s .line j .store)))
         less j n q l =
             subst (λ (k : ℕ). HoldsOn j left (drop k (map (entryOf p j) (s .line j .store)))) q
             (taken-holds here (m .far .sound) out j _ (m .far .holds j l) .holds)

@@ -47,5 +47,5 @@ module _ (p : Plan) (size : ℕ) (store : List ℕ) (o : Opens p size store) whe
     fit = λ i line. tt;
   }
 
-  pub open-meets : Meets (trimmed p) (opened p size store) T.opened
+  pub open-meets : Meets (trimmed p) (opened p size store) T.atOpening
   open-meets = record { far = shows; roads = λ i. refl; on-road = λ i. tt; off-road = λ i off. refl }

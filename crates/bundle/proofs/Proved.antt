@@ -15,7 +15,7 @@ use Rattle.theory.specs.System.{Item, packet, marker, Line, State, Step, take, 
 use Rattle.theory.specs.System as T
 use Rattle.theory.specs.Words.{total, before, NoneBehind, toCome}
 use Rattle.theory.specs.Words as W
-use Rattle.theory.specs.FarEnd.{front, bytesOf}
+use Rattle.theory.specs.FarEnd.{front, handedBytes}
 use Rattle.theory.specs.FarEnd as F
 use Rattle.theory.proofs.Lines.{fetched-lost}
 use Rattle.theory.proofs.Choose.{choose-wins}
@@ -164,7 +164,7 @@ module _ (p : Plan) (size : ℕ) (store : List ℕ) (o : Opens p size store) whe
       (b .0, ap (λ (l : List (List ℕ)). l ++ b .0) (reaches p size store o h (calm h none) .hands) ∙ b .1 ∙ log-packets h begin)
 
   system-append : (h g : List Call) → state (h ++ g) ≡ run plan (state h) (log (world h) g)
-  system-append h g = ap (run plan T.opened) (log-append h g begin) ∙ run-append plan (steps h) (log (world h) g) T.opened
+  system-append h g = ap (run plan T.atOpening) (log-append h g begin) ∙ run-append plan (steps h) (log (world h) g) T.atOpening
 
   all-out : AllOut p size store
   all-out h none roads outs many room =
@@ -173,7 +173,7 @@ module _ (p : Plan) (size : ℕ) (store : List ℕ) (o : Opens p size store) whe
       λ i line. ap (λ (s : State). s .line i .lost) (system-append h (map takes outs)) ∙ takes-lose plan outs (world h) (state h) i ∙ none i line in
       let near = calm g none-later in
       reaches p size store o g near .hands
-      ∙ ap (λ (l : List Step). bytesOf (T.outs plan T.opened l)) (drained p size store o h outs many room near)
+      ∙ ap (λ (l : List Step). handedBytes (T.outs plan T.atOpening l)) (drained p size store o h outs many room near)
       ∙ far p size store o .all-out (steps h) none (λ i line. map-none _ _ (sym (reaches p size store o h (calm h none) .meets .roads i) ∙ roads i line))
       ∙ log-packets h begin
     where
@@ -196,17 +196,17 @@ module _ (p : Plan) (size : ℕ) (store : List ℕ) (o : Opens p size store) whe
       )
 
   -- what the calls behind h₁ hand out
-  handed-since : (h₁ h₂ : List Call) → Near p size store (h₁ ++ h₂) → handedIn (world h₁) h₂ ≡ bytesOf (T.outs plan (state h₁) (log (world h₁) h₂))
+  handed-since : (h₁ h₂ : List Call) → Near p size store (h₁ ++ h₂) → handedIn (world h₁) h₂ ≡ handedBytes (T.outs plan (state h₁) (log (world h₁) h₂))
   handed-since h₁ h₂ near =
       let l₁ = steps h₁ in
       let l₂ = log (world h₁) h₂ in
-      let first = near-split plan l₁ l₂ T.opened (subst (F.Near plan T.opened) (log-append h₁ h₂ begin) near) .0 in
-      append-cancel (handedIn begin h₁) (handedIn (world h₁) h₂) (bytesOf (T.outs plan (state h₁) l₂))
+      let first = near-split plan l₁ l₂ T.atOpening (subst (F.Near plan T.atOpening) (log-append h₁ h₂ begin) near) .0 in
+      append-cancel (handedIn begin h₁) (handedIn (world h₁) h₂) (handedBytes (T.outs plan (state h₁) l₂))
       (sym (handed-append h₁ h₂ begin) ∙ reaches p size store o (h₁ ++ h₂) near .hands
-      ∙ ap (λ (l : List Step). bytesOf (T.outs plan T.opened l)) (log-append h₁ h₂ begin)
-      ∙ ap bytesOf (outs-append plan l₁ l₂ T.opened)
-      ∙ bytes-append (T.outs plan T.opened l₁) (T.outs plan (state h₁) l₂)
-      ∙ ap (λ (l : List (List ℕ)). l ++ bytesOf (T.outs plan (state h₁) l₂)) (sym (reaches p size store o h₁ first .hands)))
+      ∙ ap (λ (l : List Step). handedBytes (T.outs plan T.atOpening l)) (log-append h₁ h₂ begin)
+      ∙ ap handedBytes (outs-append plan l₁ l₂ T.atOpening)
+      ∙ bytes-append (T.outs plan T.atOpening l₁) (T.outs plan (state h₁) l₂)
+      ∙ ap (λ (l : List (List ℕ)). l ++ handedBytes (T.outs plan (state h₁) l₂)) (sym (reaches p size store o h₁ first .hands)))
 
   order : Order p size store
   order h₁ h₂ c near yields safe =
@@ -215,9 +215,9 @@ module _ (p : Plan) (size : ℕ) (store : List ℕ) (o : Opens p size store) whe
       let whole : steps (h₁ ++ h₂) ≡ l₁ ++ l₂ = log-append h₁ h₂ begin in
       let sent : packets (l₁ ++ l₂) ≡ sentOf p size store (h₁ ++ h₂) = ap packets (sym whole) ∙ log-packets (h₁ ++ h₂) begin in
       let b = far p size store o .order l₁ l₂ c yields (λ i line. subst (λ (l : List Step). NoneBehind (c i) (F.after plan l .line i .lost)) whole (safe i line)) in (
-        bytesOf (b .0),
-        ap (λ (l : List (List ℕ)). l ++ bytesOf (b .0)) (handed-since h₁ h₂ near) ∙ sym (bytes-append (T.outs plan (state h₁) l₂) (b .0)) ∙ ap bytesOf (b .1)
-            ∙ ap (λ (ps : List (List ℕ)). bytesOf (toCome plan (nth ps) c (state h₁) (length ps))) sent,
+        handedBytes (b .0),
+        ap (λ (l : List (List ℕ)). l ++ handedBytes (b .0)) (handed-since h₁ h₂ near) ∙ sym (bytes-append (T.outs plan (state h₁) l₂) (b .0)) ∙ ap handedBytes (b .1)
+            ∙ ap (λ (ps : List (List ℕ)). handedBytes (toCome plan (nth ps) c (state h₁) (length ps))) sent,
       )
 
   cleared : Cleared p size store
@@ -225,7 +225,7 @@ module _ (p : Plan) (size : ℕ) (store : List ℕ) (o : Opens p size store) whe
       let g : List Call = h ++ map takes outs in
       subst NoPacket (sym (queued p size store o g near i line))
       (none-queued (trimmed p) i (state g .line i .store)
-      (subst (λ (l : List Step). W.NoPacket (F.after plan l .line i .store)) (sym (drained p size store o h outs many room near)) (far p size store o .cleared (steps h) marks i line)))
+      (subst (λ (l : List Step). W.NoPacketIn (F.after plan l .line i .store)) (sym (drained p size store o h outs many room near)) (far p size store o .cleared (steps h) marks i line)))
 
   valid : Valid p size store
   valid h = (keeps p size store o h .valid, calls-valid h begin (open-valid p size store (o .sixteen) (o .receiver) (o .long)))

@@ -109,7 +109,7 @@ module _ (w : World) (ok : Sound (here w)) where
         holds = λ i l es h. rw (taken-is (o .out) (o .result .answer) i, none-stored (o .out) (o .result .answer) i, append-nil) (taken-holds (here w) ok out i es h .holds);
       }
     where
-      taken-is : (end : List ℕ) (t : Taken) (i : ℕ) → takenBy i (takeSeen end t) ≡ stage.takenBy i t
+      taken-is : (end : List ℕ) (t : Taken) (i : ℕ) → takenBy i (takeSeen end t) ≡ stage.takenFrom i t
       taken-is end (taken.Waiting j) i = refl
       taken-is end (taken.Data j n) i = refl
       taken-is end (taken.Missing j m) i = refl

@@ -12,7 +12,7 @@ use Rattle.theory.specs.Sending as S
 use Rattle.theory.specs.Demands.{Sound, Fit}
 use Rattle.theory.specs.System.{Item, marker, Line, State, Step, send, ask, arrive, lose, take, arrived, dropped, positions, current, step, run, packets, sizes, Out, outs, handed}
 use Rattle.theory.specs.System as T
-use Rattle.theory.specs.FarEnd.{front, bytesOf}
+use Rattle.theory.specs.FarEnd.{front, handedBytes}
 use Rattle.theory.specs.FarEnd as F
 use Rattle.theory.proofs.Lines.{arrived-reported, dropped-reported}
 use Rattle.theory.proofs.Histories.{at-field, run-append, outs-append, near-split, carries-are}
@@ -35,7 +35,7 @@ use Rattle.bundle.proofs.Roads.{send-meets, ask-meets, lose-meets}
 use Rattle.bundle.proofs.Arrivals.{arrive-meets}
 use Rattle.bundle.proofs.Takes.{take-hands, take-reports, take-meets}
 
-pub bytes-append : (xs ys : List Out) → bytesOf (xs ++ ys) ≡ bytesOf xs ++ bytesOf ys
+pub bytes-append : (xs ys : List Out) → handedBytes (xs ++ ys) ≡ handedBytes xs ++ handedBytes ys
 bytes-append [] ys = refl
 bytes-append (x ∷ xs) ys = ap (λ (l : List (List ℕ)). x .bytes ∷ l) (bytes-append xs ys)
 
@@ -147,10 +147,10 @@ module _ (p : Plan) (size : ℕ) (store : List ℕ) (o : Opens p size store) whe
   log-and h e = log-append h (e ∷ []) (opened p size store) ∙ ap (λ (l : List Step). logOf p size store h ++ l) (append-nil (stepsOf (seen (world h) e)))
 
   pub system-and : (h : List Call) (e : Call) → state (andThen h e) ≡ run plan (state h) (stepsOf (seen (world h) e))
-  system-and h e = ap (run plan T.opened) (log-and h e) ∙ run-append plan (logOf p size store h) (stepsOf (seen (world h) e)) T.opened
+  system-and h e = ap (run plan T.atOpening) (log-and h e) ∙ run-append plan (logOf p size store h) (stepsOf (seen (world h) e)) T.atOpening
 
   pub near-and : (h : List Call) (e : Call) → Near p size store (andThen h e) → Near p size store h × F.Near plan (state h) (stepsOf (seen (world h) e))
-  near-and h e near = near-split plan (logOf p size store h) (stepsOf (seen (world h) e)) T.opened (subst (F.Near plan T.opened) (log-and h e) near)
+  near-and h e near = near-split plan (logOf p size store h) (stepsOf (seen (world h) e)) T.atOpening (subst (F.Near plan T.atOpening) (log-and h e) near)
 
   pub some : 1 ≤ p .lines
   some = plan-sound .some-line
@@ -163,19 +163,19 @@ module _ (p : Plan) (size : ℕ) (store : List ℕ) (o : Opens p size store) whe
 
   pub record Reaches (h : List Call) : Type 0 where
     pub meets : Meets kept (world h) (state h)
-    pub hands : handedIn (opened p size store) h ≡ bytesOf (outs plan T.opened (logOf p size store h))
+    pub hands : handedIn (opened p size store) h ≡ handedBytes (outs plan T.atOpening (logOf p size store h))
     pub reports : (i : ℕ) → reportedIn i (opened p size store) h ≡ state h .line i .reported
 
   -- what a call does, from a world that shows a state
   record Does (w : World) (s : State) (e : Call) : Type 0 where
     meets : Meets kept (call w e) (run plan s (stepsOf (seen w e)))
-    hands : bytesOut (handedBy (seen w e)) ≡ bytesOf (outs plan s (stepsOf (seen w e)))
+    hands : bytesOut (handedBy (seen w e)) ≡ handedBytes (outs plan s (stepsOf (seen w e)))
     reports : (i : ℕ) → run plan s (stepsOf (seen w e)) .line i .reported ≡ s .line i .reported + reportedBy i (seen w e)
 
   silent-does : (w : World) (s : State) (e : Call) → Silent (seen w e) → Meets kept (call w e) (run plan s (stepsOf (seen w e))) → Does w s e
   silent-does w s e silent meets = record {
     meets = meets;
-    hands = ap bytesOut (silent .hands) ∙ ap bytesOf (sym (all-hands plan (stepsOf (seen w e)) s (silent .steps)));
+    hands = ap bytesOut (silent .hands) ∙ ap handedBytes (sym (all-hands plan (stepsOf (seen w e)) s (silent .steps)));
     reports = λ i. omega (arith, all-reports plan (stepsOf (seen w e)) s (silent .steps) i, silent .reports i);
   }
 
@@ -207,9 +207,9 @@ module _ (p : Plan) (size : ℕ) (store : List ℕ) (o : Opens p size store) whe
         hands =
             handed-append h (e ∷ []) (opened p size store)
             ∙ ap (λ (l : List (List ℕ)). handedIn (opened p size store) h ++ l) (ap bytesOut (append-nil (handedBy (seen (world h) e))) ∙ d .hands)
-            ∙ ap (λ (l : List (List ℕ)). l ++ bytesOf (outs plan (state h) (stepsOf (seen (world h) e)))) (r .hands)
-            ∙ sym (bytes-append (outs plan T.opened (logOf p size store h)) (outs plan (state h) (stepsOf (seen (world h) e))))
-            ∙ ap bytesOf (sym (ap (outs plan T.opened) (log-and h e) ∙ outs-append plan (logOf p size store h) (stepsOf (seen (world h) e)) T.opened));
+            ∙ ap (λ (l : List (List ℕ)). l ++ handedBytes (outs plan (state h) (stepsOf (seen (world h) e)))) (r .hands)
+            ∙ sym (bytes-append (outs plan T.atOpening (logOf p size store h)) (outs plan (state h) (stepsOf (seen (world h) e))))
+            ∙ ap handedBytes (sym (ap (outs plan T.atOpening) (log-and h e) ∙ outs-append plan (logOf p size store h) (stepsOf (seen (world h) e)) T.atOpening));
         reports = λ i. omega (
           arith,
           reported-append i h (e ∷ []) (opened p size store),
@@ -228,8 +228,8 @@ module _ (p : Plan) (size : ℕ) (store : List ℕ) (o : Opens p size store) whe
   reaches-on (e ∷ g) h r near =
       let same : andThen h e ++ g ≡ h ++ (e ∷ g) = append-assoc h (e ∷ []) g in
       let near' : Near p size store (andThen h e ++ g) = rw same near in
-      let first = near-split plan (logOf p size store (andThen h e)) (log (world (andThen h e)) g) T.opened
-      (subst (F.Near plan T.opened) (log-append (andThen h e) g (opened p size store)) near') in
+      let first = near-split plan (logOf p size store (andThen h e)) (log (world (andThen h e)) g) T.atOpening
+      (subst (F.Near plan T.atOpening) (log-append (andThen h e) g (opened p size store)) near') in
       rw (← same) (reaches-on g (andThen h e) (reaches-and h e r (first .0)) near')
 
   pub reaches : (h : List Call) → Near p size store h → Reaches h

@@ -21,7 +21,7 @@ use Rattle.ring.specs.Ring.{onto}
 use Rattle.theory.specs.Sending.{rounds, roundAt, counterAt}
 use Rattle.theory.specs.System.{Item, packet, marker, State, positions, current, fetched, outOf, take, step, run, outs}
 use Rattle.theory.specs.System as T
-use Rattle.theory.specs.FarEnd.{front, bytesOf, nearHead, Near}
+use Rattle.theory.specs.FarEnd.{front, handedBytes, nearHead, Near}
 use Rattle.theory.proofs.Counting.{one-round-more}
 use Rattle.theory.proofs.Histories.{at-all}
 use Rattle.receiving.specs.declared.Receiver.{Receiver}
@@ -83,7 +83,7 @@ module _ (p : Plan) (good : planOk p ≡ true) (some : 1 ≤ p .lines) (w : Worl
     -- what is to be shown of it
     record Done (items : List Item) (a : Taken) (o : List ℕ) : Type 0 where
       answer : a ≡ says out c items x
-      hands : bytesOut (handedBy (takeSeen o a)) ≡ bytesOf (outs (theirs p) s (stepsOf (takeSeen o a)))
+      hands : bytesOut (handedBy (takeSeen o a)) ≡ handedBytes (outs (theirs p) s (stepsOf (takeSeen o a)))
       reports : (i : ℕ) → run (theirs p) s (stepsOf (takeSeen o a)) .line i .reported ≡ s .line i .reported + reportedBy i (takeSeen o a)
       meets : Meets p (after (takeSeen o a)) (run (theirs p) s (stepsOf (takeSeen o a)))
 
@@ -95,23 +95,23 @@ module _ (p : Plan) (good : planOk p ≡ true) (some : 1 ≤ p .lines) (w : Worl
     nothing-here : s .line c .store ≡ [] → Done [] (took .result .answer) (took .out)
     nothing-here e =
         let is = waits p good some w s m within out e in
-        let still : fetched (theirs p) c (s .line c) ≡ s .line c = ap (λ (items : List Item). T.takeOf (theirs p) c items (s .line c)) e in
+        let still : fetched (theirs p) c (s .line c) ≡ s .line c = ap (λ (items : List Item). T.lineTaken (theirs p) c items (s .line c)) e in
         let lines = at-all (λ j l. l ≡ s .line j) c (fetched (theirs p) c) (s .line) still (λ j d. refl) in
         let same : s ≡ step (theirs p) s take = λ k. record { sent = s .sent; carries = s .carries; line = fun-ext (λ j. sym (lines j)) k } in
         rw is (record {
           answer = refl;
-          hands = ap (λ (items : List Item). bytesOf (outOf items ++ [])) (sym e);
+          hands = ap (λ (items : List Item). handedBytes (outOf items ++ [])) (sym e);
           reports = λ i. ap (λ (l : T.Line). l .reported) (lines i) ∙ omega arith;
           meets = idle (step (theirs p) s take) (ap (λ (o : TakeOutcome). o .result .next) is) (subst (Meets p w) same m);
         })
 
     -- what is reported on each line, by what is on the one that was taken from
     reports-are : (v : Event) (items : List Item) → s .line c .store ≡ items
-        → T.takeOf (theirs p) c items (s .line c) .reported ≡ s .line c .reported + reportedBy c v
+        → T.lineTaken (theirs p) c items (s .line c) .reported ≡ s .line c .reported + reportedBy c v
         → ((j : ℕ) → (c ≡ j → ⊥) → reportedBy j v ≡ 0) → (i : ℕ) → step (theirs p) s take .line i .reported ≡ s .line i .reported + reportedBy i v
     reports-are v items e new others =
         at-all (λ j l. l .reported ≡ s .line j .reported + reportedBy j v) c (fetched (theirs p) c) (s .line)
-        (ap (λ (items : List Item). T.takeOf (theirs p) c items (s .line c) .reported) e ∙ new) (λ j d. omega (arith, others j d))
+        (ap (λ (items : List Item). T.lineTaken (theirs p) c items (s .line c) .reported) e ∙ new) (λ j d. omega (arith, others j d))
 
     -- the line's turn, as the receiver has it
     turn-is : turnOf (r .turns) c ≡ turnAt q x
@@ -158,7 +158,7 @@ module _ (p : Plan) (good : planOk p ≡ true) (some : 1 ≤ p .lines) (w : Worl
               rw is (record {
                 answer = simp t;
                 hands = ap (λ (bytes : List ℕ). bytes ∷ []) (take-append-seam b (drop (length b) out))
-                    ∙ ap (λ (items : List Item). bytesOf (outOf items ++ [])) (sym e);
+                    ∙ ap (λ (items : List Item). handedBytes (outOf items ++ [])) (sym e);
                 reports = reports-are (takeSeen (onto b out) (Data c (length b))) _ e (omega arith) (λ j d. refl);
                 meets = moves p good some w s m within out (packet k b) rest e (x + charge) refl (omega arith) one-more handed is turn-next (λ j. refl);
               })
@@ -212,7 +212,7 @@ module _ (p : Plan) (good : planOk p ≡ true) (some : 1 ≤ p .lines) (w : Worl
           let is : took ≡ taken r c did = is-report ∙ ap (λ (t : Report). taken r c (told-step t)) missing in
           rw is (record {
             answer = refl;
-            hands = ap (λ (items : List Item). bytesOf (outOf items ++ [])) (sym e);
+            hands = ap (λ (items : List Item). handedBytes (outOf items ++ [])) (sym e);
             reports = reports-are (takeSeen out (Missing c (y - x))) _ e (rw (eq-eqb c c refl) refl) (λ j d. rw (ne-eqb c j d) refl);
             meets = moves p good some w s m within out (marker k y) rest e y refl up ahead did is refl (λ j. refl);
           })
@@ -228,7 +228,7 @@ module _ (p : Plan) (good : planOk p ≡ true) (some : 1 ≤ p .lines) (w : Worl
       take-says = done _ refl near .answer
 
       pub take-hands : bytesOut (handedBy (takeSeen (took .out) (took .result .answer)))
-          ≡ bytesOf (outs (theirs p) s (stepsOf (takeSeen (took .out) (took .result .answer))))
+          ≡ handedBytes (outs (theirs p) s (stepsOf (takeSeen (took .out) (took .result .answer))))
       take-hands = done _ refl near .hands
 
       pub take-reports : (i : ℕ)

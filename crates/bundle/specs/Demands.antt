@@ -59,7 +59,7 @@ module _ (p : Plan) (size : ℕ) (store : List ℕ) where
 
   -- each marker, when taken, is fewer than 2^31 rounds ahead of its line
   abbrev pub Near : List Call → Type 0
-  Near h = F.Near theirs T.opened (logOf h)
+  Near h = F.Near theirs T.atOpening (logOf h)
 
   -- nothing lost: on no line, on its way or refused where it arrived; nothing under way
   abbrev pub NothingLost : List Call → Type 0
@@ -71,7 +71,7 @@ module _ (p : Plan) (size : ℕ) (store : List ℕ) where
   -- The log is of this world: what it says was sent and handed out was; what it has under way and queued is what roads and rings hold.
   pub record Shown (h : List Call) : Type 0 where
     pub sent : sentOf h ≡ T.packets (logOf h)
-    pub handed : handedIn opened h ≡ F.bytesOf (T.outs theirs T.opened (logOf h))
+    pub handed : handedIn opened h ≡ F.handedBytes (T.outs theirs T.atOpening (logOf h))
     pub road : (i : ℕ) → after h .road i ≡ map (parcelOf kept i) (system h .line i .road)
     pub queued : (i : ℕ) → i < p .lines → queue (after h) i ≡ map (entryOf kept i) (system h .line i .store)
 
@@ -135,7 +135,7 @@ module _ (p : Plan) (size : ℕ) (store : List ℕ) where
       (h₁ h₂ : List Call) (c : ℕ → ℕ) → Near (h₁ ++ h₂)
       → ((i : ℕ) → i < p .lines → Yielded (c i) (system h₁ .line i .taken))
       → ((i : ℕ) → i < p .lines → NoneBehind (c i) (system (h₁ ++ h₂) .line i .lost))
-      → Beginning (handedIn (after h₁) h₂) (F.bytesOf (toCome theirs (T.nth (sentOf (h₁ ++ h₂))) c (system h₁) (length (sentOf (h₁ ++ h₂)))))
+      → Beginning (handedIn (after h₁) h₂) (F.handedBytes (toCome theirs (T.nth (sentOf (h₁ ++ h₂))) c (system h₁) (length (sentOf (h₁ ++ h₂)))))
 
   -- With a marker sent after the last packet stored on every line, as many takes with room as items held leave no packet queued.
   abbrev pub Cleared : Type 0

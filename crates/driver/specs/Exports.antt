@@ -24,24 +24,28 @@ abbrev pub exported : Written → ℕ
 exported (w.Length n) = n
 exported (w.Refused k) = 256 + k
 
--- a number's reading: 0 for nothing, else the number plus 2^32 times the place after it; and as C reads it back
-abbrev pub exportedReading : Reading → ℕ
-exportedReading Nothing = 0
-exportedReading (Number v at) = v + 4294967296 * at
+-- where the upper half of a word of 64 bits begins, and the bit that says that a marker is none
+abbrev pub bit32 : ℕ
+bit32 = 4294967296
 
-unfoldable pub readingIn : ℕ → Reading
-readingIn w = cond (eqb w 0) Nothing (Number (w % 4294967296) (w / 4294967296))
-
--- a marker's reading: the line plus 16 times the counter plus 2^32 times the round, or 2^25 plus the table's number; and as C reads it back
 abbrev pub bit25 : ℕ
 bit25 = 33554432
 
+-- a number's reading: 0 for nothing, else the number plus 2^32 times the place after it; and as C reads it back
+abbrev pub exportedReading : Reading → ℕ
+exportedReading Nothing = 0
+exportedReading (Number v at) = v + bit32 * at
+
+unfoldable pub readingIn : ℕ → Reading
+readingIn w = cond (eqb w 0) Nothing (Number (w % bit32) (w / bit32))
+
+-- a marker's reading: the line plus 16 times the counter plus 2^32 times the round, or 2^25 plus the table's number; and as C reads it back
 abbrev pub exportedMarker : MarkerRead → ℕ
-exportedMarker (m.Whole k) = k .line + 16 * k .counter + 4294967296 * k .round
+exportedMarker (m.Whole k) = k .line + 16 * k .counter + bit32 * k .round
 exportedMarker (m.Refused number) = bit25 + number
 
 unfoldable pub markerIn : ℕ → MarkerRead
-markerIn w = cond (eqb (w / bit25 % 2) 1) (m.Refused (w % bit25)) (m.Whole (markerOf (w % 16) (w / 4294967296) (w % 4294967296 / 16)))
+markerIn w = cond (eqb (w / bit25 % 2) 1) (m.Refused (w % bit25)) (m.Whole (markerOf (w % 16) (w / bit32) (w % bit32 / 16)))
 
 -- the plan of a record, written
 abbrev pub copied : List ℕ → List ℕ → Outcome

@@ -59,7 +59,7 @@ abbrev state : List Call → State
 state h = F.after theirs (plainSteps h)
 
 abbrev nearly : List Call → Bool
-nearly h = nearTest theirs T.opened (plainSteps h)
+nearly h = nearTest theirs T.atOpening (plainSteps h)
 
 -- of `Reports`: after h a take answers that 500 bytes are missing on line 0, on which nothing was reported before
 abbrev answerIn : World → Taken
@@ -70,7 +70,7 @@ Finds h = Near (h ++ (takes room ∷ [])) × (answerIn (after h) ≡ taken.Missi
 
 -- of `Order`, with line i's marker labelled c i; and what h₂ hands out is all that was to come
 abbrev dueIn : List (List ℕ) → (ℕ → ℕ) → State → List (List ℕ)
-dueIn sent c s = F.bytesOf (toCome theirs (T.nth sent) c s (length sent))
+dueIn sent c s = F.handedBytes (toCome theirs (T.nth sent) c s (length sent))
 
 abbrev Orders : List Call → List Call → (ℕ → ℕ) → List (List ℕ) → Type 0
 Orders h₁ h₂ c handed =

@@ -133,10 +133,10 @@ on-both P first second (suc (suc i)) h = absurd (omega arith)
 -- ---- of the log
 
 module _ (p : Plan) (size : ℕ) (store : List ℕ) (h : List Call) (plain : Plain (opened p size store) h) where
-  pub near : nearTest (theirs p size store) T.opened (plainSteps h) ≡ true → Near p size store h
+  pub near : nearTest (theirs p size store) T.atOpening (plainSteps h) ≡ true → Near p size store h
   near passed =
-      subst (F.Near (theirs p size store) T.opened) (sym (log-is h (opened p size store) plain))
-      (steps-near (theirs p size store) (plainSteps h) T.opened passed)
+      subst (F.Near (theirs p size store) T.atOpening) (sym (log-is h (opened p size store) plain))
+      (steps-near (theirs p size store) (plainSteps h) T.atOpening passed)
 
   pub of-system : (P : State → Type 0) → P (F.after (theirs p size store) (plainSteps h)) → P (system p size store h)
   of-system P = subst (λ (steps : List Step). P (F.after (theirs p size store) steps)) (sym (log-is h (opened p size store) plain))

@@ -122,7 +122,7 @@ labels i = cond (eqb i 0) 5 0
 abbrev OrderOf : List (List ℕ) → Type 0
 OrderOf handed =
     let sent = sentOf (passed ++ drop 19 lossy) in
-    Beginning handed (F.bytesOf (toCome theirs (T.nth sent) labels (system passed) (length sent)))
+    Beginning handed (F.handedBytes (toCome theirs (T.nth sent) labels (system passed) (length sent)))
 
 -- With the answer that the ends give, each is what its promise concludes.
 pub record Concluded : Type 0 where
@@ -148,7 +148,7 @@ concluded = record {
 pub record Wrong : Type 0 where
   -- `LogShown`: a send that the log forgets; a packet handed out damaged, or gone from the road, or from the queue
   pub log-sent : sentOf (take 1 calm) ≡ T.packets [] → ⊥
-  pub log-handed : numbered 9 400 ∷ [] ≡ F.bytesOf (T.outs theirs T.opened (logOf (take 15 calm))) → ⊥
+  pub log-handed : numbered 9 400 ∷ [] ≡ F.handedBytes (T.outs theirs T.atOpening (logOf (take 15 calm))) → ⊥
   pub log-road : [] ≡ map (parcelOf kept 0) (system (take 1 calm) .line 0 .road) → ⊥
   pub log-queued : [] ≡ map (entryOf kept 0) (system (take 2 calm) .line 0 .store) → ⊥
   -- `ChargedBytes`: a byte more

@@ -16,7 +16,7 @@ use Rattle.receiving.specs.declared.Held.{Held}
 use Rattle.receiving.specs.Receiver.{heldOf, currentLine, receiverOk, ringOf}
 use Rattle.receiving.specs.Taking.{TakeOutcome, takeOf}
 use Rattle.receiving.specs.Takes.{goesOn}
-use Rattle.receiving.specs.Stage.{Stage, stage, takenBy}
+use Rattle.receiving.specs.Stage.{Stage, stage, takenFrom}
 use Rattle.receiving.proofs.Laws.{valid, ring-length}
 use Rattle.receiving.proofs.Lines.{held-same, held-other, line-whole}
 use Rattle.receiving.proofs.Stages.{Sound, HoldsIn, HoldsOn, Untouched, untouched-holds}
@@ -51,10 +51,10 @@ module _ (s : Stage) (ok : Sound s) (out : List ℕ) where
   pub taken-other : (i : ℕ) → (i ≡ line → ⊥) → Untouched i s left
   taken-other i apart = rw (line-taken s ok out) (record { ring = refl; held = held-other (r .rings) line _ i apart })
 
-  none-taken : (i : ℕ) → (i ≡ line → ⊥) → takenBy i (took .result .answer) ≡ 0
+  none-taken : (i : ℕ) → (i ≡ line → ⊥) → takenFrom i (took .result .answer) ≡ 0
   none-taken i apart = taken-by r (s .store) out i ∙ simp (ne-eqb line i (λ q. apart (sym q)), and-false)
 
-  pub taken-from : (i : ℕ) → takenBy i (took .result .answer) ≡ 1 → i ≡ line
+  pub taken-from : (i : ℕ) → takenFrom i (took .result .answer) ≡ 1 → i ≡ line
   taken-from i e = go (ℕ-discrete i line)
     where
       go : Dec (i ≡ line) → i ≡ line
@@ -63,19 +63,19 @@ module _ (s : Stage) (ok : Sound s) (out : List ℕ) where
 
   -- the items of line i that are left, where the answer says how many were taken
   pub record Leaves (i : ℕ) (es : List Entry) : Type 0 where
-    pub enough : takenBy i (took .result .answer) ≤ length es
-    pub holds : HoldsOn i left (drop (takenBy i (took .result .answer)) es)
+    pub enough : takenFrom i (took .result .answer) ≤ length es
+    pub holds : HoldsOn i left (drop (takenFrom i (took .result .answer)) es)
 
   left-here : (es : List Entry) → HoldsOn line s es → (t : Bool) → goesOn (took .result .answer) ≡ t → Leaves line es
   left-here es h false on =
-      let none : takenBy line (took .result .answer) ≡ 0 = taken-by r (s .store) out line ∙ simp on in
+      let none : takenFrom line (took .result .answer) ≡ 0 = taken-by r (s .store) out line ∙ simp on in
       record {
         enough = omega arith;
         holds = rw none (subst (λ (next : Receiver). HoldsOn line (stage next (s .store)) es) (sym (refused-stays r (s .store) out on .0)) h);
       }
   left-here [] h true on = absurd (never (sym on ∙ ap (λ (t : TakeOutcome). goesOn (t .result .answer)) (empty-waits s ok out h)))
   left-here (e ∷ es) h true on =
-      let one : takenBy line (took .result .answer) ≡ 1 = taken-by r (s .store) out line ∙ simp (on, eq-eqb line line refl) in
+      let one : takenFrom line (took .result .answer) ≡ 1 = taken-by r (s .store) out line ∙ simp (on, eq-eqb line line refl) in
       let v = valid r (ok .good) in
       let n = itemHead + length (e .bytes) in
       let was = heldOf (r .rings) line in

@@ -22,7 +22,7 @@ use Rattle.receiving.specs.Arriving.{Arrival, arrival, arrivalOf, dataAr
 use Rattle.receiving.specs.Taking.{itemOn, headOn, roundNow, takeOf}
 use Rattle.receiving.specs.declared.Ended.the-variants.{Waiting}
 use Rattle.receiving.specs.Takes.{goesOn, takesFrom, takesOf}
-use Rattle.receiving.specs.Stage.{Stage, stage, takenBy, queueOn}
+use Rattle.receiving.specs.Stage.{Stage, stage, takenFrom, queueOn}
 use Rattle.receiving.proofs.Valid.{data-valid, marker-valid, take-valid, refused-stays}
 use Rattle.receiving.proofs.Stages.{Sound, HoldsOn, untouched-queue}
 use Rattle.receiving.proofs.Storing.{Lands, left, kept, refused-back, data-lands, marker-lands, landed-line, landed-holds, landed-other}
@@ -88,7 +88,7 @@ module _ (s : Stage) (ok : Sound s) (i : ℕ) (es : List Entry) (h : HoldsOn i s
   arrival-appends b = (appended 0 b _ (data-lands (s .receiver) i b (s .store)), appended 1 b _ (marker-lands (s .receiver) i b (s .store)))
 
   -- A take that takes an item from line i drops the head of line i's queue, and the other queues stay as they were.
-  pub take-drops : (out : List ℕ) → takenBy i (takeOf (s .receiver) (s .store) out .result .answer) ≡ 1
+  pub take-drops : (out : List ℕ) → takenFrom i (takeOf (s .receiver) (s .store) out .result .answer) ≡ 1
       → DropsHead i s (stage (takeOf (s .receiver) (s .store) out .result .next) (s .store))
   take-drops out one =
       let t = taken-holds s ok out i es h in
@@ -114,7 +114,7 @@ fed = left (markerArrival (one-in .receiver) 0 (0 ∷ 2 ∷ 64 ∷ []) (one-in .
 
 pub premises : (openReceiver small-plan 67 .number ≡ 0) × (length {A = ℕ} (replicate 134 0) ≡ small-plan .lines * 67)
     × (dataArrival (started .receiver) 0 (7 ∷ 8 ∷ 9 ∷ []) (started .store) .arrived .number ≡ 0)
-    × (takenBy 0 (takeOf (fed .receiver) (fed .store) (replicate 4 0) .result .answer) ≡ 1)
+    × (takenFrom 0 (takeOf (fed .receiver) (fed .store) (replicate 4 0) .result .answer) ≡ 1)
 unfolding openReceiver planOk storeOk countersOk allBelow arrivalOf arrival receiverOk ringsOk turnsOk lineAt firstFrom ahead ringOf withRing stored intoRing held fromRing frontOf markerOn judge recordRead readingOf reportOf chargeOf takeOf headOn itemOn roundNow best better
 premises = (refl, refl, refl, refl)
 

@@ -34,7 +34,7 @@ use Rattle.receiving.specs.declared.Taken.{Taken}
 use Rattle.receiving.specs.declared.Taken.the-variants.{Waiting, Data, Missing, Behind, Refused}
 use Rattle.receiving.specs.Taking.{Head, nothing, packet, marker, no-item, dataHead, markerHead, itemOn, frontOn, headOn, Stepped, stays, past, chargedTurn, toldStep, stepOf}
 use Rattle.receiving.specs.Takes.{wordOf, bytesOf, goesOn}
-use Rattle.receiving.specs.Stage.{takenBy}
+use Rattle.receiving.specs.Stage.{takenFrom}
 use Rattle.receiving.specs.Ready.{Ready}
 use Rattle.receiving.proofs.Laws.{HeldIn, TurnIn}
 
@@ -127,13 +127,13 @@ pub record Goes (p : LinePlan) (size i : ℕ) (l : Line) (kind : ℕ) (b out : L
   -- one after which a run ends changes nothing
   pub unmoved : goesOn (s .step .answer) ≡ false → (s .step .line ≡ l) × (s .out ≡ out)
   -- any other takes the item, from line i
-  pub taken : (j : ℕ) → takenBy j (s .step .answer) ≡ cond (goesOn (s .step .answer) && eqb i j) 1 0
+  pub taken : (j : ℕ) → takenFrom j (s .step .answer) ≡ cond (goesOn (s .step .answer) && eqb i j) 1 0
   pub gone : goesOn (s .step .answer) ≡ true → s .step .line .held ≡ past size l (length b) (l .turn) .held
   -- and data is all of the item's bytes
   pub hands : (line n : ℕ) → s .step .answer ≡ Data line n → (kind ≡ 0) × (n ≡ length b) × (take n (s .out) ≡ b)
 
 -- an answer after which a run ends says that nothing was taken
-idle : (answer : Taken) → goesOn answer ≡ false → (wordOf answer ≡ 0) × (bytesOf answer ≡ 0) × ((j : ℕ) → takenBy j answer ≡ 0)
+idle : (answer : Taken) → goesOn answer ≡ false → (wordOf answer ≡ 0) × (bytesOf answer ≡ 0) × ((j : ℕ) → takenFrom j answer ≡ 0)
 idle (Waiting line) e = (refl, refl, λ j. refl)
 idle (Data line n) e = absurd (never e)
 idle (Missing line missing) e = absurd (never e)

@@ -24,7 +24,7 @@ use Rattle.receiving.specs.Receiver.{heldOf, lineOf, turnOf, withTurn, r
 use Rattle.receiving.specs.Arriving.{Arrival, placeOf, grown, withItem, arrivalOf, dataNumber, dataArrival, markerNumber, markerArrival}
 use Rattle.receiving.specs.Taking.{Head, headOn, stepOf, roundNow, movedOn, withLine, TakeOutcome, refusedTake, taken, takeAt, takeOf}
 use Rattle.receiving.specs.Takes.{wordOf, bytesOf, goesOn}
-use Rattle.receiving.specs.Stage.{takenBy}
+use Rattle.receiving.specs.Stage.{takenFrom}
 use Rattle.receiving.proofs.Lines.{held-own, turn-own}
 use Rattle.receiving.proofs.Laws.{first-is, HeldIn, TurnIn, held-in, turn-in, Valid, valid, is-valid, at-round}
 use Rattle.receiving.proofs.Stores.{few-rings, place}
@@ -138,9 +138,9 @@ module _ (r : Receiver) (store out : List ℕ) where
       (λ good e. let u = goes good .unmoved e in (ap (withLine r (i r)) (u .0) ∙ stays-put r good, u .1))
 
   -- a take takes at most one item, and from the current line
-  pub taken-by : (j : ℕ) → takenBy j (takeOf r store out .result .answer) ≡ cond (goesOn (takeOf r store out .result .answer) && eqb (i r) j) 1 0
+  pub taken-by : (j : ℕ) → takenFrom j (takeOf r store out .result .answer) ≡ cond (goesOn (takeOf r store out .result .answer) && eqb (i r) j) 1 0
   taken-by j =
-      take-cases (λ t. takenBy j (t .result .answer) ≡ cond (goesOn (t .result .answer) && eqb (i r) j) 1 0) r store out (λ _. refl) (λ good. goes good .taken j)
+      take-cases (λ t. takenFrom j (t .result .answer) ≡ cond (goesOn (t .result .answer) && eqb (i r) j) 1 0) r store out (λ _. refl) (λ good. goes good .taken j)
 
   pub kept-sizes : (takeOf r store out .result .next .plan ≡ r .plan) × (takeOf r store out .result .next .rings .size ≡ r .rings .size)
   kept-sizes =

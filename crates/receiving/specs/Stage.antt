@@ -24,9 +24,9 @@ queueOn i s =
     queue (ringOf (s .receiver .rings .size) (s .store) i) (h .head) (h .used)
 
 -- how many items an answer says were taken from line i
-abbrev pub takenBy : ℕ → Taken → ℕ
-takenBy i (Waiting line) = 0
-takenBy i (Data line n) = cond (eqb line i) 1 0
-takenBy i (Missing line missing) = cond (eqb line i) 1 0
-takenBy i (Behind line) = cond (eqb line i) 1 0
-takenBy i (Refused k) = 0
+abbrev pub takenFrom : ℕ → Taken → ℕ
+takenFrom i (Waiting line) = 0
+takenFrom i (Data line n) = cond (eqb line i) 1 0
+takenFrom i (Missing line missing) = cond (eqb line i) 1 0
+takenFrom i (Behind line) = cond (eqb line i) 1 0
+takenFrom i (Refused k) = 0

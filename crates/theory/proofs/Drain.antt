@@ -10,8 +10,8 @@ use native.Mathlib.Omega.{arith}
 use lib.ListN.{length}
 use Rattle.theory.specs.Sending.{Plan, carried, lineOf}
 use Rattle.theory.specs.Demands.{Sound}
-use Rattle.theory.specs.System.{Item, packet, marker, Line, State, opened, take, takeOf, fetched, at, positions, current, step, run, packets, nth}
-use Rattle.theory.specs.Words.{total, before, HasMarker, NoPacket, heldBelow, takes}
+use Rattle.theory.specs.System.{Item, packet, marker, Line, State, atOpening, take, lineTaken, fetched, at, positions, current, step, run, packets, nth}
+use Rattle.theory.specs.Words.{total, before, HasMarker, NoPacketIn, storedBelow, takes}
 use Rattle.theory.specs.FarEnd.{after, Cleared}
 use Rattle.theory.proofs.Choose.{choose-wins, cross}
 use Rattle.theory.proofs.Carried.{carried-mono, sum-before}
@@ -23,26 +23,26 @@ use Rattle.theory.proofs.Histories.{at-same, at-other, at-all, Good, go
 abbrev heldOn : Line → ℕ
 heldOn l = length (l .store)
 
-held-above : (lines : ℕ → Line) (a : ℕ) (f : Line → Line) (n : ℕ) → n ≤ a → heldBelow (at a f lines) n ≡ heldBelow lines n
+held-above : (lines : ℕ → Line) (a : ℕ) (f : Line → Line) (n : ℕ) → n ≤ a → storedBelow (at a f lines) n ≡ storedBelow lines n
 held-above lines a f zero h = refl
 held-above lines a f (suc n) h = omega (arith, held-above lines a f n (omega arith), ap heldOn (at-other a f lines n (λ e. omega arith)))
 
 held-less : (lines : ℕ → Line) (a : ℕ) (f : Line → Line) (n : ℕ) → a < n → suc (heldOn (f (lines a))) ≡ heldOn (lines a)
-    → suc (heldBelow (at a f lines) n) ≡ heldBelow lines n
+    → suc (storedBelow (at a f lines) n) ≡ storedBelow lines n
 held-less lines a f zero h less = absurd (omega arith)
 held-less lines a f (suc n) h less = go (λ l. held-less lines a f n l less) (decLt a n)
   where
-    last : (m : ℕ) → a ≡ m → suc (heldBelow (at a f lines) (suc m)) ≡ heldBelow lines (suc m)
+    last : (m : ℕ) → a ≡ m → suc (storedBelow (at a f lines) (suc m)) ≡ storedBelow lines (suc m)
     last m e =
-        subst (λ (k : ℕ). suc (heldBelow (at a f lines) (suc k)) ≡ heldBelow lines (suc k)) e
+        subst (λ (k : ℕ). suc (storedBelow (at a f lines) (suc k)) ≡ storedBelow lines (suc k)) e
         (omega (arith, held-above lines a f a (le-refl a), ap heldOn (at-same a f lines a refl)))
 
-    go : (a < n → suc (heldBelow (at a f lines) n) ≡ heldBelow lines n) → Dec (a < n)
-        → suc (heldBelow (at a f lines) (suc n)) ≡ heldBelow lines (suc n)
+    go : (a < n → suc (storedBelow (at a f lines) n) ≡ storedBelow lines n) → Dec (a < n)
+        → suc (storedBelow (at a f lines) (suc n)) ≡ storedBelow lines (suc n)
     go fewer (yes l) = omega (arith, fewer l, ap heldOn (at-other a f lines n (λ e. omega arith)))
     go fewer (no l) = last n (omega arith)
 
-held-none : (lines : ℕ → Line) (n b : ℕ) → b < n → heldBelow lines n ≡ 0 → heldOn (lines b) ≡ 0
+held-none : (lines : ℕ → Line) (n b : ℕ) → b < n → storedBelow lines n ≡ 0 → heldOn (lines b) ≡ 0
 held-none lines zero b h none = absurd (omega arith)
 held-none lines (suc n) b h none = go (λ l. held-none lines n b l (omega arith)) (decLt b n)
   where
@@ -53,7 +53,7 @@ held-none lines (suc n) b h none = go (λ l. held-none lines n b l (omega arith)
         let last : heldOn (lines n) ≡ 0 = omega arith in
         subst (λ (k : ℕ). heldOn (lines k) ≡ 0) e last
 
-empty-none : (xs : List Item) → length xs ≡ 0 → NoPacket xs
+empty-none : (xs : List Item) → length xs ≡ 0 → NoPacketIn xs
 empty-none [] e = tt
 empty-none (x ∷ rest) e = absurd (omega arith)
 
@@ -73,7 +73,7 @@ wait-step p s empty =
     go : (j : ℕ) → Dec (a ≡ j) → at a (fetched p a) (s .line) j ≡ s .line j
     go j (yes e) =
         at-same a (fetched p a) (s .line) j e
-        ∙ ap (λ (w : List Item). takeOf p a w (s .line j)) (subst (λ (i : ℕ). s .line i .store ≡ []) e empty)
+        ∙ ap (λ (w : List Item). lineTaken p a w (s .line j)) (subst (λ (i : ℕ). s .line i .store ≡ []) e empty)
     go j (no e) = at-other a (fetched p a) (s .line) j e
 
 wait-run : (p : Plan) (n : ℕ) (s : State) → s .line (current p s) .store ≡ [] → run p s (takes n) ≡ s
@@ -82,8 +82,8 @@ wait-run p (suc n) s empty = ap (λ (t : State). run p t (takes n)) (wait-step p
 
 -- elsewhere it takes one item
 take-length : (p : Plan) (i : ℕ) (x : Item) (rest : List Item) (l : Line) → l .store ≡ x ∷ rest → suc (heldOn (fetched p i l)) ≡ heldOn l
-take-length p i (packet k y) rest l e = ap (λ (w : List Item). suc (heldOn (takeOf p i w l))) e ∙ sym (ap length e)
-take-length p i (marker k m) rest l e = ap (λ (w : List Item). suc (heldOn (takeOf p i w l))) e ∙ sym (ap length e)
+take-length p i (packet k y) rest l e = ap (λ (w : List Item). suc (heldOn (lineTaken p i w l))) e ∙ sym (ap length e)
+take-length p i (marker k m) rest l e = ap (λ (w : List Item). suc (heldOn (lineTaken p i w l))) e ∙ sym (ap length e)
 
 -- a property of every line that a take of a line keeps
 kept : (p : Plan) (Q : ℕ → Line → Type 0) (s : State)
@@ -98,7 +98,7 @@ pub record Whole (l : Line) : Type 0 where
   pub lossless : l .lost ≡ []
   pub arrives : l .road ≡ []
 
-whole-take : (p : Plan) (i : ℕ) (l : Line) (w : List Item) → Whole l → Whole (takeOf p i w l)
+whole-take : (p : Plan) (i : ℕ) (l : Line) (w : List Item) → Whole l → Whole (lineTaken p i w l)
 whole-take p i l [] whole = whole
 whole-take p i l (packet k x ∷ rest) whole = record { lossless = whole .lossless; arrives = whole .arrives }
 whole-take p i l (marker k m ∷ rest) whole = record { lossless = whole .lossless; arrives = whole .arrives }
@@ -119,7 +119,7 @@ module _ (p : Plan) (bytes : ℕ → List ℕ) where
   abbrev CaughtUp : ℕ → ℕ → Line → Type 0
   CaughtUp n i l = carried p lengths n i ≤ l .position
 
-  chain-none-sent : (i c e : ℕ) (xs : List Item) → Chain p bytes i c xs e → ((k : ℕ) → c ≤ k → k < e → lineOf p lengths k ≡ i → ⊥) → NoPacket xs
+  chain-none-sent : (i c e : ℕ) (xs : List Item) → Chain p bytes i c xs e → ((k : ℕ) → c ≤ k → k < e → lineOf p lengths k ≡ i → ⊥) → NoPacketIn xs
   chain-none-sent i c e [] t none = tt
   chain-none-sent i c e (packet k x ∷ rest) t none = none k (t .0) (chain-le p bytes i (suc k) e rest (t .3)) (t .1)
   chain-none-sent i c e (marker k m ∷ rest) t none =
@@ -133,7 +133,7 @@ module _ (p : Plan) (bytes : ℕ → List ℕ) where
   module _ (some : 1 ≤ p .lines) where
     -- A take waits on a line that has caught up: no packet is queued anywhere, since by the rule of sending it would be one of that line's.
     wait-none : (s : State) → Good p bytes s → s .line (current p s) .store ≡ [] → CaughtUp (s .sent) (current p s) (s .line (current p s))
-        → (b : ℕ) → NoPacket (s .line b .store)
+        → (b : ℕ) → NoPacketIn (s .line b .store)
     wait-none s good empty caught b = go (ℕ-discrete a b)
       where
         a : ℕ
@@ -150,15 +150,15 @@ module _ (p : Plan) (bytes : ℕ → List ℕ) where
             let low-there = subst (λ (i : ℕ). s .line i .position ≤ carried p lengths k i) (sym here) low in
             ne (cross p some (positions s) (carried p lengths k) low-there (omega arith) ∙ here)
 
-        go : Dec (a ≡ b) → NoPacket (s .line b .store)
-        go (yes e) = subst (λ (w : List Item). NoPacket w) (sym (subst (λ (i : ℕ). s .line i .store ≡ []) e empty)) tt
+        go : Dec (a ≡ b) → NoPacketIn (s .line b .store)
+        go (yes e) = subst (λ (w : List Item). NoPacketIn w) (sym (subst (λ (i : ℕ). s .line i .store ≡ []) e empty)) tt
         go (no ne) = chain-none-sent b (next (s .line b .taken)) (o .middle) (s .line b .store) (o .held) (λ k. none k ne)
 
     -- Q holds before each take, and where it holds a line with an empty queue has caught up.
     module _ (Q : State → Type 0) (stays : (s : State) → Good p bytes s → Q s → Q (step p s take))
         (sure : (s : State) (i : ℕ) → i < p .lines → Good p bytes s → Q s → s .line i .store ≡ [] → CaughtUp (s .sent) i (s .line i)) where
-      drain : (n : ℕ) (s : State) → Good p bytes s → Q s → heldBelow (s .line) (p .lines) ≤ n
-          → (b : ℕ) → b < p .lines → NoPacket (run p s (takes n) .line b .store)
+      drain : (n : ℕ) (s : State) → Good p bytes s → Q s → storedBelow (s .line) (p .lines) ≤ n
+          → (b : ℕ) → b < p .lines → NoPacketIn (run p s (takes n) .line b .store)
       drain zero s good q enough b l = empty-none (s .line b .store) (held-none (s .line) (p .lines) b l (omega arith))
       drain (suc n) s good q enough b l =
           go (s .line a .store) refl (λ fewer. drain n (step p s take) (good-step p bytes s take good tt) (stays s good q) fewer b l)
@@ -167,10 +167,10 @@ module _ (p : Plan) (bytes : ℕ → List ℕ) where
           a = current p s
 
           go : (w : List Item) → s .line a .store ≡ w
-              → (heldBelow (step p s take .line) (p .lines) ≤ n → NoPacket (run p (step p s take) (takes n) .line b .store))
-              → NoPacket (run p s (takes (suc n)) .line b .store)
+              → (storedBelow (step p s take .line) (p .lines) ≤ n → NoPacketIn (run p (step p s take) (takes n) .line b .store))
+              → NoPacketIn (run p s (takes (suc n)) .line b .store)
           go [] e later =
-              subst (λ (t : State). NoPacket (t .line b .store)) (sym (wait-run p (suc n) s e))
+              subst (λ (t : State). NoPacketIn (t .line b .store)) (sym (wait-run p (suc n) s e))
               (wait-none s good e (sure s a (current-is-line p some s) good q e) b)
           go (x ∷ rest) e later =
               later (omega (arith, held-less (s .line) a (fetched p a) (p .lines) (current-is-line p some s) (take-length p a x rest (s .line a) e)))
@@ -181,7 +181,7 @@ module _ (p : Plan) (bytes : ℕ → List ℕ) where
     abbrev Closing : ℕ → ℕ → Line → Type 0
     Closing n i l = HasMarker n (l .store) ⊎ CaughtUp n i l
 
-    closing-take : (n i : ℕ) (l : Line) (w : List Item) → l .store ≡ w → LineOk p bytes n i l → Closing n i l → Closing n i (takeOf p i w l)
+    closing-take : (n i : ℕ) (l : Line) (w : List Item) → l .store ≡ w → LineOk p bytes n i l → Closing n i l → Closing n i (lineTaken p i w l)
     closing-take n i l [] e o c = c
     closing-take n i l (packet k x ∷ rest) e o (inl queued) = inl (subst (λ (w : List Item). HasMarker n w) e queued)
     closing-take n i l (packet k x ∷ rest) e o (inr caught) = inr (omega arith)
@@ -198,8 +198,8 @@ module _ (p : Plan) (bytes : ℕ → List ℕ) where
         inr (omega (arith, t .1, o .low, carried-mono p bytes (next (l .taken)) k i (t .0)))
 
     clear : (s : State) → Good p bytes s → ((i : ℕ) → i < p .lines → HasMarker (s .sent) (s .line i .store))
-        → (b : ℕ) → b < p .lines → NoPacket (run p s (takes (heldBelow (s .line) (p .lines))) .line b .store)
-    clear s good marked = drain Q stays sure (heldBelow (s .line) (p .lines)) s good (λ i l. inl (marked i l)) (le-refl _)
+        → (b : ℕ) → b < p .lines → NoPacketIn (run p s (takes (storedBelow (s .line) (p .lines))) .line b .store)
+    clear s good marked = drain Q stays sure (storedBelow (s .line) (p .lines)) s good (λ i l. inl (marked i l)) (le-refl _)
       where
         Q : State → Type 0
         Q t = (i : ℕ) → i < p .lines → Closing (t .sent) i (t .line i)
@@ -233,13 +233,13 @@ module _ (p : Plan) (bytes : ℕ → List ℕ) where
           ap (total (before p i n)) (whole .arrives),
         )
 
-    pub empty : (s : State) → Good p bytes s → ((i : ℕ) → i < p .lines → Whole (s .line i)) → (n : ℕ) → heldBelow (s .line) (p .lines) ≤ n
-        → (b : ℕ) → b < p .lines → NoPacket (run p s (takes n) .line b .store)
+    pub empty : (s : State) → Good p bytes s → ((i : ℕ) → i < p .lines → Whole (s .line i)) → (n : ℕ) → storedBelow (s .line) (p .lines) ≤ n
+        → (b : ℕ) → b < p .lines → NoPacketIn (run p s (takes n) .line b .store)
     empty s good whole n enough =
         drain (λ t. (i : ℕ) → i < p .lines → Whole (t .line i)) (λ t g. whole-step p t)
         (λ t i l g w e. whole-caught (t .sent) i (t .line i) (g .each i) (w i l) e) n s good whole enough
 
 pub cleared : (p : Plan) → Sound p → Cleared p
 cleared p sound h marked b l =
-    subst (λ (s : State). NoPacket (s .line b .store)) (sym (run-append p h (takes (heldBelow (after p h .line) (p .lines))) opened))
+    subst (λ (s : State). NoPacketIn (s .line b .store)) (sym (run-append p h (takes (storedBelow (after p h .line) (p .lines))) atOpening))
     (clear p (nth (packets h)) (sound .some-line) (after p h) (good-after p h) marked b l)

@@ -5,9 +5,9 @@ use mathlib.Core.List.{List, [], _∷_, _++_}
 use Prim.Native.Nat.{ℕ}
 use lib.Dec.{eqb}
 use Rattle.theory.specs.Sending.{Plan, better, best, choose, charged, carried}
-use Rattle.theory.specs.System.{Step, send, ask, arrive, lose, at, packets, nth, opened, outs}
-use Rattle.theory.specs.Words.{total, before, toCome, heldBelow, takes}
-use Rattle.theory.specs.FarEnd.{after, bytesOf}
+use Rattle.theory.specs.System.{Step, send, ask, arrive, lose, at, packets, nth, atOpening, outs}
+use Rattle.theory.specs.Words.{total, before, toCome, storedBelow, takes}
+use Rattle.theory.specs.FarEnd.{after, handedBytes}
 
 abbrev small : Plan
 small = record { lines = 2; quantum = λ i. cond (eqb i 0) 2 1; charge = λ i n. n; largest = 1; interval = 1 }
@@ -21,7 +21,7 @@ sentAll second =
     send (byte 1) ∷ arrive 0 ∷ send (byte 2) ∷ second ∷ send (byte 3) ∷ arrive 1 ∷ ask 0 ∷ arrive 0 ∷ send (byte 4) ∷ arrive 0 ∷ []
 
 abbrev handedOut : List Step → List (List ℕ)
-handedOut h = bytesOf (outs small opened (h ++ takes (heldBelow (after small h .line) 2)))
+handedOut h = handedBytes (outs small atOpening (h ++ takes (storedBelow (after small h .line) 2)))
 
 -- nothing lost: all are handed out
 pub calm : handedOut (sentAll (arrive 0)) ≡ byte 1 ∷ byte 2 ∷ byte 3 ∷ byte 4 ∷ []
@@ -38,6 +38,6 @@ lossy = (refl, refl, refl)
 
 -- once line 0 has yielded its marker, labelled 3, packets 3 and 4 are to come: line 1 stands from the opening
 pub to-come :
-    bytesOf (toCome small (nth (packets (sentAll (lose 0)))) (λ i. cond (eqb i 0) 3 0) (after small (sentAll (lose 0) ++ takes 2)) 4) ≡ byte 3 ∷ byte 4 ∷ []
+    handedBytes (toCome small (nth (packets (sentAll (lose 0)))) (λ i. cond (eqb i 0) 3 0) (after small (sentAll (lose 0) ++ takes 2)) 4) ≡ byte 3 ∷ byte 4 ∷ []
 unfolding carried choose best better charged at
 to-come = refl

@@ -10,7 +10,7 @@ use native.Mathlib.Omega.{arith}
 use borrow.Author.Tests.{eq-eqb, ne-eqb}
 use lib.ListN.{length}
 use Rattle.theory.specs.Sending.{Plan, choose, charged, carried, lineOf}
-use Rattle.theory.specs.System.{Item, packet, marker, Line, State, opened, Step, send, ask, arrive, lose, take, put, arrived, dropped, fetched}
+use Rattle.theory.specs.System.{Item, packet, marker, Line, State, atOpening, Step, send, ask, arrive, lose, take, put, arrived, dropped, fetched}
 use Rattle.theory.specs.System.{at, current, step, run, sentBy, packets, nth, sizes, Out, handed, outs}
 use Rattle.theory.specs.Words.{total, before}
 use Rattle.theory.specs.FarEnd.{after, Near, Missing}
@@ -103,7 +103,7 @@ module _ (p : Plan) (bytes : ℕ → List ℕ) where
   good-run [] s g a = g
   good-run (e ∷ h) s g a = good-run h (step p s e) (good-step s e g (a .0)) (a .1)
 
-  pub good-open : Good opened
+  pub good-open : Good atOpening
   unfolding carried
   good-open = record { carries = refl; each = λ i. keep-opened p bytes i }
 
@@ -160,11 +160,11 @@ agree-own p bytes (arrive i ∷ h) s a = (tt, agree-own p bytes h (step p s (arr
 agree-own p bytes (lose i ∷ h) s a = (tt, agree-own p bytes h (step p s (lose i)) a)
 agree-own p bytes (take ∷ h) s a = (tt, agree-own p bytes h (step p s take) a)
 
-pub own : (p : Plan) (h : List Step) → Agree p (nth (packets h)) opened h
-own p h = agree-own p (nth (packets h)) h opened (λ n l. ap (nth (packets h)) (omega arith))
+pub own : (p : Plan) (h : List Step) → Agree p (nth (packets h)) atOpening h
+own p h = agree-own p (nth (packets h)) h atOpening (λ n l. ap (nth (packets h)) (omega arith))
 
 pub good-after : (p : Plan) (h : List Step) → Good p (nth (packets h)) (after p h)
-good-after p h = good-run p (nth (packets h)) h opened (good-open p (nth (packets h))) (own p h)
+good-after p h = good-run p (nth (packets h)) h atOpening (good-open p (nth (packets h))) (own p h)
 
 pub sent-count : (p : Plan) (h : List Step) (s : State) → run p s h .sent ≡ length (packets h) + s .sent
 sent-count p [] s = omega arith
@@ -175,7 +175,7 @@ sent-count p (lose i ∷ h) s = sent-count p h (step p s (lose i))
 sent-count p (take ∷ h) s = sent-count p h (step p s take)
 
 pub sent-are : (p : Plan) (h : List Step) → after p h .sent ≡ length (packets h)
-sent-are p h = omega (arith, sent-count p h opened)
+sent-are p h = omega (arith, sent-count p h atOpening)
 
 pub carries-are : (p : Plan) (h : List Step) → after p h .carries ≡ carried p (sizes (packets h)) (length (packets h))
 carries-are p h = good-after p h .carries ∙ ap (carried p (sizes (packets h))) (sent-are p h)

@@ -8,7 +8,7 @@ use native.Mathlib.Nat.{le-refl}
 use native.Mathlib.Omega.{arith}
 use lib.ListN.{length}
 use Rattle.theory.specs.Sending.{Plan, carried, lineOf}
-use Rattle.theory.specs.System.{Item, packet, marker, Line, opened, put, arriveOf, loseOf, takeOf}
+use Rattle.theory.specs.System.{Item, packet, marker, Line, atOpening, put, arriveOf, loseOf, lineTaken}
 use Rattle.theory.specs.Words.{total, before, Yielded, NoneBehind}
 use Rattle.theory.proofs.Carried.{cond-lt, cond-ge, cond-ne, total-snoc, one}
 use Rattle.theory.proofs.Carried.{carried-same, carried-mono, sum, sum-same, sum-other, sum-before}
@@ -257,7 +257,7 @@ module _ (p : Plan) (bytes : ℕ → List ℕ) where
       let g = o .in-step c y z in
       omega arith
 
-  pub keep-take : (n i : ℕ) (l : Line) (items : List Item) → l .store ≡ items → LineOk n i l → LineOk n i (takeOf p i items l)
+  pub keep-take : (n i : ℕ) (l : Line) (items : List Item) → l .store ≡ items → LineOk n i l → LineOk n i (lineTaken p i items l)
   keep-take n i l [] e o = o
   keep-take n i l (packet k x ∷ rest) e o =
       let t : Chain i (next (l .taken)) (packet k x ∷ rest) (o .middle) =
@@ -289,7 +289,7 @@ module _ (p : Plan) (bytes : ℕ → List ℕ) where
         in-step = λ c y z. t .1;
       }
 
-  pub keep-opened : (i : ℕ) → LineOk 0 i (opened .line i)
+  pub keep-opened : (i : ℕ) → LineOk 0 i (atOpening .line i)
   unfolding sum carried
   keep-opened i = record {
     middle = 0;

@@ -3,7 +3,7 @@ use Prim.Native.Nat.{ℕ}
 use mathlib.Core.List.{List, [], _∷_}
 use mathlib.Core.Path.{_≡_, refl}
 use Rattle.theory.specs.Sending.{Plan}
-use Rattle.theory.specs.System.{Item, packet, marker, Line, arriveOf, loseOf, takeOf, arrived, dropped, fetched}
+use Rattle.theory.specs.System.{Item, packet, marker, Line, arriveOf, loseOf, lineTaken, arrived, dropped, fetched}
 
 -- an arrival moves the oldest item on the road to the end of the queue, and nothing else
 module _ {A : Type 0} (g : Line → A) where
@@ -48,7 +48,7 @@ dropped-reported l = lose-keeps (λ l. l .reported) (l .road) l (λ _ _. refl)
 pub fetched-lost : (p : Plan) (i : ℕ) (l : Line) → fetched p i l .lost ≡ l .lost
 fetched-lost p i l = go (l .store)
   where
-    go : (store : List Item) → takeOf p i store l .lost ≡ l .lost
+    go : (store : List Item) → lineTaken p i store l .lost ≡ l .lost
     go [] = refl
     go (packet k x ∷ rest) = refl
     go (marker k m ∷ rest) = refl
@@ -56,7 +56,7 @@ fetched-lost p i l = go (l .store)
 pub fetched-road : (p : Plan) (i : ℕ) (l : Line) → fetched p i l .road ≡ l .road
 fetched-road p i l = go (l .store)
   where
-    go : (store : List Item) → takeOf p i store l .road ≡ l .road
+    go : (store : List Item) → lineTaken p i store l .road ≡ l .road
     go [] = refl
     go (packet k x ∷ rest) = refl
     go (marker k m ∷ rest) = refl

@@ -7,7 +7,7 @@ use native.Mathlib.Omega.{arith}
 use lib.ListN.{length}
 use Rattle.theory.specs.Sending.{Plan, choose}
 use Rattle.theory.specs.Demands.{Sound}
-use Rattle.theory.specs.System.{Item, packet, marker, Line, State, opened, Step, send, ask, arrive, lose, take, put, loseOf}
+use Rattle.theory.specs.System.{Item, packet, marker, Line, State, atOpening, Step, send, ask, arrive, lose, take, put, loseOf}
 use Rattle.theory.specs.System.{arrived, dropped, fetched, positions, current, step, run, packets, nth}
 use Rattle.theory.specs.Words.{total, before}
 use Rattle.theory.specs.FarEnd.{after, NothingLost, nearHead, nearStep, Near}
@@ -68,5 +68,5 @@ module _ (p : Plan) (sound : Sound p) (bytes : ℕ → List ℕ) where
   near-run [] s g a z = tt
   near-run (e ∷ h) s g a z = (near-step s e g (nothing-before p (e ∷ h) s z), near-run h (step p s e) (good-step p bytes s e g (a .0)) (a .1) z)
 
-pub lossless-near : (p : Plan) → Sound p → (h : List Step) → NothingLost p (after p h) → Near p opened h
-lossless-near p sound h z = near-run p sound (nth (packets h)) h opened (good-open p (nth (packets h))) (own p h) z
+pub lossless-near : (p : Plan) → Sound p → (h : List Step) → NothingLost p (after p h) → Near p atOpening h
+lossless-near p sound h z = near-run p sound (nth (packets h)) h atOpening (good-open p (nth (packets h))) (own p h) z

@@ -13,7 +13,7 @@ use lib.Dec.{leb}
 use lib.ListN.{length}
 use Rattle.theory.specs.Sending.{Plan, carried, lineOf}
 use Rattle.theory.specs.Demands.{Sound}
-use Rattle.theory.specs.System.{Item, packet, marker, Line, State, opened, Step, send, ask, arrive, lose, take, loseOf, takeOf, dropped, fetched, at, positions, current, step, run, packets, nth, Out, outOf, handed, outs}
+use Rattle.theory.specs.System.{Item, packet, marker, Line, State, atOpening, Step, send, ask, arrive, lose, take, loseOf, lineTaken, dropped, fetched, at, positions, current, step, run, packets, nth, Out, outOf, handed, outs}
 use Rattle.theory.specs.Words.{Beginning, total, Yielded, NoneBehind, has, sieve, awaited}
 use Rattle.theory.specs.FarEnd.{after, Order}
 use Rattle.theory.proofs.Lines.{arrived-taken, arrived-lost, dropped-taken, fetched-lost}
@@ -52,7 +52,7 @@ run-back p c (e ∷ h) s j none = step-back p c s e j (run-back p c h (step p s 
 
 -- ---- what was yielded stays yielded, and the count of packets only rises
 
-take-yielded : (p : Plan) (i c : ℕ) (store : List Item) (l : Line) → Yielded c (l .taken) → Yielded c (takeOf p i store l .taken)
+take-yielded : (p : Plan) (i c : ℕ) (store : List Item) (l : Line) → Yielded c (l .taken) → Yielded c (lineTaken p i store l .taken)
 take-yielded p i c [] l y = y
 take-yielded p i c (packet k x ∷ rest) l y = y
 take-yielded p i c (marker k m ∷ rest) l y = inr y
@@ -126,11 +126,11 @@ cursor-other : (p : Plan) (s : State) (j : ℕ) → (current p s ≡ j → ⊥) 
 cursor-other p s j ne = ap (λ (l : Line). next (l .taken)) (at-other (current p s) (fetched p (current p s)) (s .line) j ne)
 
 cursor-taken : (p : Plan) (s : State) (w : List Item) (j : ℕ) → s .line (current p s) .store ≡ w → j ≡ current p s
-    → cursor (step p s take) j ≡ next (takeOf p (current p s) w (s .line (current p s)) .taken)
+    → cursor (step p s take) j ≡ next (lineTaken p (current p s) w (s .line (current p s)) .taken)
 cursor-taken p s w j e here =
     let a = current p s in
     ap (cursor (step p s take)) here ∙ ap (λ (l : Line). next (l .taken)) (at-same a (fetched p a) (s .line) a refl)
-    ∙ ap (λ (w : List Item). next (takeOf p a w (s .line a) .taken)) e
+    ∙ ap (λ (w : List Item). next (lineTaken p a w (s .line a) .taken)) e
 
 module _ (p : Plan) (bytes : ℕ → List ℕ) where
   abbrev lengths : ℕ → ℕ
@@ -418,11 +418,11 @@ from-all p bytes (o ∷ rest) = ap (λ (w : List Out). o ∷ w) (from-all p byte
 pub ordered : (p : Plan) → Sound p → Order p
 ordered p sound h₁ h₂ c yields safe =
     let bytes : ℕ → List ℕ = nth (packets (h₁ ++ h₂)) in
-    let parts = run-append p h₁ h₂ opened in
-    let agree = agree-split p bytes h₁ h₂ opened (own p (h₁ ++ h₂)) in
+    let parts = run-append p h₁ h₂ atOpening in
+    let agree = agree-split p bytes h₁ h₂ atOpening (own p (h₁ ++ h₂)) in
     let safe-there : (i : ℕ) → i < p .lines → all i ≡ true → NoneBehind (c i) (run p (after p h₁) h₂ .line i .lost) =
     λ i b f. subst (λ (s : State). NoneBehind (c i) (s .line i .lost)) parts (safe i b) in
-    let good = good-run p bytes h₁ opened (good-open p bytes) (agree .0) in
+    let good = good-run p bytes h₁ atOpening (good-open p bytes) (agree .0) in
     let b = order p bytes all (sound .some-line) c h₂ (after p h₁) good (agree .1) (λ i l f. yields i l) safe-there in
     let count : run p (after p h₁) h₂ .sent ≡ length (packets (h₁ ++ h₂)) = ap (λ (s : State). s .sent) (sym parts) ∙ sent-are p (h₁ ++ h₂) in
     subst (λ (m : ℕ). Beginning (outs p (after p h₁) h₂) (map (label p bytes) (sieve (awaited p bytes c (after p h₁)) m))) count

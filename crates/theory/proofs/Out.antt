@@ -14,9 +14,9 @@ use lib.ListN.{length}
 use lib.Seq.{take-suc, take-length}
 use Rattle.theory.specs.Sending.{Plan, carried, lineOf}
 use Rattle.theory.specs.Demands.{Sound}
-use Rattle.theory.specs.System.{Item, packet, marker, State, opened, Step, take, step, run, sentBy, packets, nth, Out, outs}
-use Rattle.theory.specs.Words.{total, NoneBehind, NoPacket, sieve, heldBelow, takes}
-use Rattle.theory.specs.FarEnd.{after, bytesOf, NothingLost, InOrder, AllOut}
+use Rattle.theory.specs.System.{Item, packet, marker, State, atOpening, Step, take, step, run, sentBy, packets, nth, Out, outs}
+use Rattle.theory.specs.Words.{total, NoneBehind, NoPacketIn, sieve, storedBelow, takes}
+use Rattle.theory.specs.FarEnd.{after, handedBytes, NothingLost, InOrder, AllOut}
 use Rattle.theory.proofs.Choose.{choose-wins}
 use Rattle.theory.proofs.Carried.{one, sum-one}
 use Rattle.theory.proofs.Invariant.{next, past-none, LineOk}
@@ -34,14 +34,14 @@ firsts ps (suc n) h =
     map-append (nth ps) (sieve (λ (k : ℕ). true) n) (n ∷ [])
     ∙ ap (λ (w : List (List ℕ)). w ++ (nth ps n ∷ [])) (firsts ps n (omega arith)) ∙ sym (take-suc ps n [] h)
 
-bytes-label : (p : Plan) (bytes : ℕ → List ℕ) (xs : List ℕ) → bytesOf (map (label p bytes) xs) ≡ map bytes xs
+bytes-label : (p : Plan) (bytes : ℕ → List ℕ) (xs : List ℕ) → handedBytes (map (label p bytes) xs) ≡ map bytes xs
 bytes-label p bytes [] = refl
 bytes-label p bytes (x ∷ xs) = ap (λ (w : List (List ℕ)). bytes x ∷ w) (bytes-label p bytes xs)
 
-all-ahead : (p : Plan) (ps : List (List ℕ)) → bytesOf (come p (nth ps) all opened (length ps)) ≡ ps
+all-ahead : (p : Plan) (ps : List (List ℕ)) → handedBytes (come p (nth ps) all atOpening (length ps)) ≡ ps
 all-ahead p ps =
-    bytes-label p (nth ps) (sieve (ahead p (nth ps) all opened) (length ps))
-    ∙ ap (map (nth ps)) (sieve-same (ahead p (nth ps) all opened) (λ (k : ℕ). true) (length ps) (λ k l. le-leb 0 k (omega arith)))
+    bytes-label p (nth ps) (sieve (ahead p (nth ps) all atOpening) (length ps))
+    ∙ ap (map (nth ps)) (sieve-same (ahead p (nth ps) all atOpening) (λ (k : ℕ). true) (length ps) (λ k l. le-leb 0 k (omega arith)))
     ∙ firsts ps (length ps) (le-refl _) ∙ take-length ps
 
 -- ---- nothing lost
@@ -51,19 +51,19 @@ toComeAfter p h = come p (nth (packets h)) all (after p h) (length (packets h))
 
 -- every line, opened, has yielded a marker labelled 0, behind which no packet is lost
 whole-follow : (p : Plan) → 1 ≤ p .lines → (h : List Step) → NothingLost p (after p h)
-    → bytesOf (outs p opened h) ++ bytesOf (toComeAfter p h) ≡ packets h
+    → handedBytes (outs p atOpening h) ++ handedBytes (toComeAfter p h) ≡ packets h
 whole-follow p some h lossless =
     let bytes : ℕ → List ℕ = nth (packets h) in
     let bytes-of : Out → List ℕ = λ o. o .bytes in
-    sym (map-append bytes-of (outs p opened h) (toComeAfter p h))
-    ∙ ap (λ (w : List Out). bytesOf (w ++ toComeAfter p h)) (sym (from-all p bytes (outs p opened h)))
+    sym (map-append bytes-of (outs p atOpening h) (toComeAfter p h))
+    ∙ ap (λ (w : List Out). handedBytes (w ++ toComeAfter p h)) (sym (from-all p bytes (outs p atOpening h)))
     ∙ ap (map bytes-of)
-    (follow p bytes all some (λ i. 0) h opened (length (packets h)) (good-open p bytes) (own p h) (λ i b f. refl)
+    (follow p bytes all some (λ i. 0) h atOpening (length (packets h)) (good-open p bytes) (own p h) (λ i b f. refl)
     (λ i b f. subst (λ (w : List Item). NoneBehind 0 w) (sym (lossless i b)) tt) (omega (arith, sent-are p h)))
     ∙ all-ahead p (packets h)
 
 pub in-order : (p : Plan) → Sound p → InOrder p
-in-order p sound h lossless = (bytesOf (toComeAfter p h), whole-follow p (sound .some-line) h lossless)
+in-order p sound h lossless = (handedBytes (toComeAfter p h), whole-follow p (sound .some-line) h lossless)
 
 -- ---- and nothing under way
 
@@ -76,14 +76,14 @@ agree-takes : (p : Plan) (bytes : ℕ → List ℕ) (n : ℕ) (s : State) → Ag
 agree-takes p bytes zero s = tt
 agree-takes p bytes (suc n) s = (tt, agree-takes p bytes n (step p s take))
 
-none-counted : (k : ℕ) (xs : List Item) → NoPacket xs → total (one k) xs ≡ 0
+none-counted : (k : ℕ) (xs : List Item) → NoPacketIn xs → total (one k) xs ≡ 0
 none-counted k [] none = refl
 none-counted k (packet j x ∷ rest) none = absurd none
 none-counted k (marker j m ∷ rest) none = none-counted k rest none
 
 -- with no packet queued either, none is to come
 none-ahead : (p : Plan) (bytes : ℕ → List ℕ) → 1 ≤ p .lines → (s : State) → Good p bytes s
-    → ((i : ℕ) → i < p .lines → Whole (s .line i)) → ((i : ℕ) → i < p .lines → NoPacket (s .line i .store))
+    → ((i : ℕ) → i < p .lines → Whole (s .line i)) → ((i : ℕ) → i < p .lines → NoPacketIn (s .line i .store))
     → (k : ℕ) → k < s .sent → ahead p bytes all s k ≡ false
 none-ahead p bytes some s good whole none k h = go (decLe (next (s .line i .taken)) k)
   where
@@ -111,7 +111,7 @@ none-ahead p bytes some s good whole none k h = go (decLe (next (s .line i .take
     go (no passed) = lt-leb (next (s .line i .taken)) k (omega arith)
 
 -- n takes, where no more than n items are held
-module _ (p : Plan) (some : 1 ≤ p .lines) (h : List Step) (n : ℕ) (enough : heldBelow (after p h .line) (p .lines) ≤ n)
+module _ (p : Plan) (some : 1 ≤ p .lines) (h : List Step) (n : ℕ) (enough : storedBelow (after p h .line) (p .lines) ≤ n)
     (whole : (i : ℕ) → i < p .lines → Whole (after p h .line i)) where
   abbrev steps : List Step
   steps = h ++ takes n
@@ -123,7 +123,7 @@ module _ (p : Plan) (some : 1 ≤ p .lines) (h : List Step) (n : ℕ) (enough : 
   end = run p (after p h) (takes n)
 
   at-end : after p steps ≡ end
-  at-end = run-append p h (takes n) opened
+  at-end = run-append p h (takes n) atOpening
 
   good : Good p bytes (after p h)
   good = subst (λ (ps : List (List ℕ)). Good p (nth ps) (after p h)) (sym (packets-takes h n)) (good-after p h)
@@ -139,12 +139,12 @@ module _ (p : Plan) (some : 1 ≤ p .lines) (h : List Step) (n : ℕ) (enough : 
       ∙ none-ahead p bytes some end (good-run p bytes (takes n) (after p h) good (agree-takes p bytes n (after p h))) whole-end
       (empty p bytes some (after p h) good whole n enough) k (omega (arith, ap (λ (s : State). s .sent) at-end, sent-are p steps))))
 
-  all-out-at : bytesOf (outs p opened steps) ≡ packets h
+  all-out-at : handedBytes (outs p atOpening steps) ≡ packets h
   all-out-at =
-      sym (append-nil _) ∙ sym (ap (λ (w : List Out). bytesOf (outs p opened steps) ++ bytesOf w) none-comes)
+      sym (append-nil _) ∙ sym (ap (λ (w : List Out). handedBytes (outs p atOpening steps) ++ handedBytes w) none-comes)
       ∙ whole-follow p some steps (λ i l. ap (λ (s : State). s .line i .lost) at-end ∙ whole-end i l .lossless) ∙ packets-takes h n
 
 pub all-out : (p : Plan) → Sound p → AllOut p
 all-out p sound h lossless arrived =
-    all-out-at p (sound .some-line) h (heldBelow (after p h .line) (p .lines)) (le-refl _)
+    all-out-at p (sound .some-line) h (storedBelow (after p h .line) (p .lines)) (le-refl _)
     (λ i l. record { lossless = lossless i l; arrives = arrived i l })

@@ -9,7 +9,7 @@ use native.Mathlib.Omega.{arith}
 use lib.ListN.{length}
 use Rattle.theory.specs.Sending.{Plan, rounds, choose}
 use Rattle.theory.specs.Demands.{Sound, Fit}
-use Rattle.theory.specs.System.{Item, packet, marker, Line, State, opened, Step, send, ask, arrive, lose, take, takeOf}
+use Rattle.theory.specs.System.{Item, packet, marker, Line, State, atOpening, Step, send, ask, arrive, lose, take, lineTaken}
 use Rattle.theory.specs.System.{arrived, dropped, fetched, at, positions, current, step, run, packets, nth}
 use Rattle.theory.specs.FarEnd.{after, nearHead, nearStep, Near, Window}
 use Rattle.theory.proofs.Lines.{arrived-position, dropped-position}
@@ -27,14 +27,14 @@ Within p v = (i : ℕ) → i < p .lines → rounds p v i < rounds p v (choose p 
 module _ (p : Plan) (sound : Sound p) (bytes : ℕ → List ℕ) (n : ℕ) (fit : Fit p (λ m. length (bytes m)) n) where
   -- a take does not move a line back,
   no-fall : (s : State) (i : ℕ) (items : List Item) → Good p bytes s → s .line i .store ≡ items
-      → s .line i .position ≤ takeOf p i items (s .line i) .position
+      → s .line i .position ≤ lineTaken p i items (s .line i) .position
   no-fall s i [] g e = le-refl _
   no-fall s i (packet k x ∷ rest) g e = omega arith
   no-fall s i (marker k m ∷ rest) g e = missing-at p bytes s i k m rest g e .0
 
   -- and moves it by fewer than 2^31 rounds: a packet in a queue is among the first n, so it moves its line by one round at most
   no-leap : (s : State) (i : ℕ) (items : List Item) → Good p bytes s → s .sent ≤ n → i < p .lines → s .line i .store ≡ items
-      → nearHead p i (s .line i) items → takeOf p i items (s .line i) .position / p .quantum i < s .line i .position / p .quantum i + 2147483648
+      → nearHead p i (s .line i) items → lineTaken p i items (s .line i) .position / p .quantum i < s .line i .position / p .quantum i + 2147483648
   no-leap s i [] g c b e near = omega arith
   no-leap s i (packet k x ∷ rest) g c b e near =
       let o = g .each i in
@@ -105,6 +105,6 @@ module _ (p : Plan) (sound : Sound p) (bytes : ℕ → List ℕ) (n : ℕ) (fit 
 pub window : (p : Plan) → Sound p → Window p
 window p sound h fit near i l = (
   choose-wins p (sound .some-line) (positions (after p h)) .beats i l .low,
-  window-run p sound (nth (packets h)) (length (packets h)) fit h opened (good-open p (nth (packets h))) (own p h) (omega (arith, sent-are p h)) near
+  window-run p sound (nth (packets h)) (length (packets h)) fit h atOpening (good-open p (nth (packets h))) (own p h) (omega (arith, sent-are p h)) near
       (λ j m. omega (arith, zero-div (p .quantum j))) i l,
 )

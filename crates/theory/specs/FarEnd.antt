@@ -6,19 +6,19 @@ use lib.ListN.{length}
 use Rattle.numbers.specs.Wrap.{half}
 use Rattle.theory.specs.Sending.{Plan, rounds}
 use Rattle.theory.specs.Demands.{Fit}
-use Rattle.theory.specs.System.{Item, packet, marker, Line, State, opened, Step, send, ask, arrive, lose, take, positions, current, step}
+use Rattle.theory.specs.System.{Item, packet, marker, Line, State, atOpening, Step, send, ask, arrive, lose, take, positions, current, step}
 use Rattle.theory.specs.System.{run, packets, nth, sizes, Out, outs}
-use Rattle.theory.specs.Words.{Beginning, total, before, Yielded, NoneBehind, HasMarker, NoPacket, toCome, heldBelow, takes}
+use Rattle.theory.specs.Words.{Beginning, total, before, Yielded, NoneBehind, HasMarker, NoPacketIn, toCome, storedBelow, takes}
 
 -- the state after some steps from the opening, and the line that a take looks at
 abbrev pub after : Plan → List Step → State
-after p steps = run p opened steps
+after p steps = run p atOpening steps
 
 abbrev pub front : Plan → State → Line
 front p s = s .line (current p s)
 
-abbrev pub bytesOf : List Out → List (List ℕ)
-bytesOf outs = map (λ (o : Out). o .bytes) outs
+abbrev pub handedBytes : List Out → List (List ℕ)
+handedBytes outs = map (λ (o : Out). o .bytes) outs
 
 -- on every line nothing is lost; on every line nothing is under way
 abbrev pub NothingLost : Plan → State → Type 0
@@ -31,13 +31,13 @@ NothingUnderWay p s = (i : ℕ) → i < p .lines → s .line i .road ≡ []
 
 -- Nothing lost: what is handed out is a beginning of the packets sent,
 abbrev pub InOrder : Plan → Type 0
-InOrder p = (h : List Step) → NothingLost p (after p h) → Beginning (bytesOf (outs p opened h)) (packets h)
+InOrder p = (h : List Step) → NothingLost p (after p h) → Beginning (handedBytes (outs p atOpening h)) (packets h)
 
 -- and once nothing is under way, as many takes as items held hand out the rest.
 abbrev pub AllOut : Plan → Type 0
 AllOut p =
     (h : List Step) → NothingLost p (after p h) → NothingUnderWay p (after p h)
-    → bytesOf (outs p opened (h ++ takes (heldBelow (after p h .line) (p .lines)))) ≡ packets h
+    → handedBytes (outs p atOpening (h ++ takes (storedBelow (after p h .line) (p .lines)))) ≡ packets h
 
 -- ---- demand 3
 
@@ -62,7 +62,7 @@ Order p =
 abbrev pub Cleared : Plan → Type 0
 Cleared p =
     (h : List Step) → ((i : ℕ) → i < p .lines → HasMarker (after p h .sent) (after p h .line i .store))
-    → (i : ℕ) → i < p .lines → NoPacket (after p (h ++ takes (heldBelow (after p h .line) (p .lines))) .line i .store)
+    → (i : ℕ) → i < p .lines → NoPacketIn (after p (h ++ takes (storedBelow (after p h .line) (p .lines))) .line i .store)
 
 -- ---- demand 3's premise
 
@@ -87,7 +87,7 @@ Near p s (e ∷ steps) = nearStep p s e × Near p (step p s e) steps
 -- It keeps the far end's rounds within 2^31 of the current one, so that rounds kept modulo 2^32 decide.
 abbrev pub Window : Plan → Type 0
 Window p =
-    (h : List Step) → Fit p (sizes (packets h)) (length (packets h)) → Near p opened h → (i : ℕ) → i < p .lines
+    (h : List Step) → Fit p (sizes (packets h)) (length (packets h)) → Near p atOpening h → (i : ℕ) → i < p .lines
     → (rounds p (positions (after p h)) (current p (after p h)) ≤ rounds p (positions (after p h)) i)
     × (rounds p (positions (after p h)) i < rounds p (positions (after p h)) (current p (after p h)) + half)
 

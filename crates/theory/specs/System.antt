@@ -30,8 +30,8 @@ pub record State : Type 0 where
   pub carries : ℕ → ℕ
   pub line : ℕ → Line
 
-abbrev pub opened : State
-opened = record {
+abbrev pub atOpening : State
+atOpening = record {
   sent = 0;
   carries = λ i. 0;
   line = λ i. record { road = []; store = []; taken = []; lost = []; position = 0; reported = 0 };
@@ -81,9 +81,9 @@ loseOf (x ∷ rest) l = record {
 
 -- A take of line i: nothing where its queue is empty. A packet moves the position by its charge. A marker sets it, and what it jumps over is
 -- reported missing.
-abbrev pub takeOf : Plan → ℕ → List Item → Line → Line
-takeOf p i [] l = l
-takeOf p i (packet k x ∷ rest) l = record {
+abbrev pub lineTaken : Plan → ℕ → List Item → Line → Line
+lineTaken p i [] l = l
+lineTaken p i (packet k x ∷ rest) l = record {
   road = l .road;
   store = rest;
   taken = packet k x ∷ l .taken;
@@ -91,7 +91,7 @@ takeOf p i (packet k x ∷ rest) l = record {
   position = l .position + p .charge i (length x);
   reported = l .reported;
 }
-takeOf p i (marker k m ∷ rest) l = record {
+lineTaken p i (marker k m ∷ rest) l = record {
   road = l .road;
   store = rest;
   taken = marker k m ∷ l .taken;
@@ -107,7 +107,7 @@ abbrev pub dropped : Line → Line
 dropped l = loseOf (l .road) l
 
 abbrev pub fetched : Plan → ℕ → Line → Line
-fetched p i l = takeOf p i (l .store) l
+fetched p i l = lineTaken p i (l .store) l
 
 -- the lines, with line i changed
 unfoldable pub at : ℕ → (Line → Line) → (ℕ → Line) → ℕ → Line

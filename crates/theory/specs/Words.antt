@@ -46,10 +46,10 @@ HasMarker c (packet k x ∷ rest) = HasMarker c rest
 HasMarker c (marker k m ∷ rest) = (k ≡ c) ⊎ HasMarker c rest
 
 -- a queue holds no packet
-abbrev pub NoPacket : List Item → Type 0
-NoPacket [] = Unit {0}
-NoPacket (packet k x ∷ rest) = ⊥
-NoPacket (marker k m ∷ rest) = NoPacket rest
+abbrev pub NoPacketIn : List Item → Type 0
+NoPacketIn [] = Unit {0}
+NoPacketIn (packet k x ∷ rest) = ⊥
+NoPacketIn (marker k m ∷ rest) = NoPacketIn rest
 
 -- ---- packets still to come
 
@@ -76,9 +76,9 @@ toCome p bytes c s n = map (λ (k : ℕ). record { number = k; bytes = bytes k }
 
 -- ---- as many takes as items held
 
-abbrev pub heldBelow : (ℕ → Line) → ℕ → ℕ
-heldBelow lines zero = 0
-heldBelow lines (suc n) = heldBelow lines n + length (lines n .store)
+abbrev pub storedBelow : (ℕ → Line) → ℕ → ℕ
+storedBelow lines zero = 0
+storedBelow lines (suc n) = storedBelow lines n + length (lines n .store)
 
 abbrev pub takes : ℕ → List Step
 takes zero = []
