@@ -11,6 +11,14 @@ use std::collections::VecDeque;
 /// What an arrival answers that is not refused.
 const STORED: &str = "arrived 0 0";
 
+/// A step's bytes in a recording.
+pub fn written(step: &Step) -> Vec<u8> {
+    let [a, b, c] = step.numbers;
+    let mut all = record(&[step.kind, a, b, c, step.bytes.len() as u32].map(u64::from));
+    all.extend(&step.bytes);
+    all
+}
+
 #[derive(Clone)]
 enum Item {
     /// Its number in sent order, and its length.

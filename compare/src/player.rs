@@ -93,13 +93,6 @@ pub struct Step {
 }
 
 impl Step {
-    pub fn written(&self) -> Vec<u8> {
-        let [a, b, c] = self.numbers;
-        let mut all = record(&[self.kind, a, b, c, self.bytes.len() as u32].map(u64::from));
-        all.extend(&self.bytes);
-        all
-    }
-
     /// The step at the front of the bytes, and the bytes behind it.
     fn read(mut bytes: &[u8]) -> Option<(Step, &[u8])> {
         let mut all = [0; 5];
@@ -138,32 +131,35 @@ fn plan_record(plan: &Plan) -> Vec<u8> {
     record(&all.into_iter().map(u64::from).collect::<Vec<u64>>())
 }
 
+/// A row or a line that there is not has no figure.
 pub fn sender_figure(sender: &mut Sender, row: u32, line: usize) -> Option<&mut u32> {
     Some(match row {
+        _ if line >= 16 => return None,
         LINES => &mut sender.plan.lines,
         MAX => &mut sender.plan.max,
         INTERVAL => &mut sender.plan.interval,
         CURRENT => &mut sender.line,
         COUNTDOWN => &mut sender.countdown,
-        QUANTA => sender.plan.quanta.get_mut(line)?,
-        ROUNDS => sender.rounds.get_mut(line)?,
-        COUNTERS => sender.counters.get_mut(line)?,
+        QUANTA => &mut sender.plan.quanta[line],
+        ROUNDS => &mut sender.rounds[line],
+        COUNTERS => &mut sender.counters[line],
         _ => return None,
     })
 }
 
 pub fn receiver_figure(receiver: &mut Receiver, row: u32, line: usize) -> Option<&mut u32> {
     Some(match row {
+        _ if line >= 16 => return None,
         LINES => &mut receiver.plan.lines,
         MAX => &mut receiver.plan.max,
         INTERVAL => &mut receiver.plan.interval,
         SIZE => &mut receiver.rings.size,
         ROUND => &mut receiver.turns.round,
-        QUANTA => receiver.plan.quanta.get_mut(line)?,
-        ROUNDS => receiver.turns.rounds.get_mut(line)?,
-        COUNTERS => receiver.turns.counters.get_mut(line)?,
-        HEADS => receiver.rings.heads.get_mut(line)?,
-        USED => receiver.rings.used.get_mut(line)?,
+        QUANTA => &mut receiver.plan.quanta[line],
+        ROUNDS => &mut receiver.turns.rounds[line],
+        COUNTERS => &mut receiver.turns.counters[line],
+        HEADS => &mut receiver.rings.heads[line],
+        USED => &mut receiver.rings.used[line],
         _ => return None,
     })
 }

@@ -151,7 +151,8 @@ fn senders(making: &mut Making) {
         making.with(SET_SENDER, row, 1, value, sender_refused_with_2);
     }
     [QUANTA, ROUNDS, COUNTERS].into_iter().for_each(|row| making.set(SET_SENDER, row, 2, 77));
-    making.set(SET_SENDER, COUNTERS, 16, 77);
+    // no such figure
+    [(COUNTERS, 16), (LINES, 16), (10, 0)].into_iter().for_each(|(row, line)| making.set(SET_SENDER, row, line, 77));
     making.expect("refused 4", SEND, [0; 3], EMPTY);
     making.expect("refused 4", SEND, [501, 0, 0], EMPTY);
     making.expect("sent 0", SEND, [500, 0, 0], EMPTY);
@@ -194,6 +195,7 @@ fn receivers(making: &mut Making) {
         });
     }
     [QUANTA, ROUNDS, COUNTERS, HEADS, USED].into_iter().for_each(|row| making.set(SET_RECEIVER, row, 2, SMALL + 7));
+    [(USED, 16), (SIZE, 16), (10, 0)].into_iter().for_each(|(row, line)| making.set(SET_RECEIVER, row, line, 77));
 }
 
 /// Arrivals out of range, what is just within, and the order of the checks.
@@ -288,6 +290,28 @@ fn told_by_markers(making: &mut Making) {
     takes(making, &["packet 0 500 6"]);
 }
 
+/// Counters that fall to just 0 and just not, at both ends, and markers due at every full round and at every second.
+fn exactly(making: &mut Making) {
+    making.open(&record(&PLAN), LARGE);
+    let packets = [(0, 500, 0), (0, 500, 0), (1, 499, 0), (1, 1, 1), (0, 500, 0), (0, 499, 0), (0, 1, 0), (1, 500, 1), (0, 1, 0)];
+    for (line, length, due) in packets {
+        making.expect(&format!("sent {line} {due}"), SEND, [length, 0, 0], EMPTY);
+        making.expect("arrived 0", DATA, [line, 1, length], EMPTY);
+    }
+    for (line, length, _) in packets {
+        making.expect(&format!("packet {line} {length}"), TAKE, [500, 0, 0], EMPTY);
+    }
+    making.open(&record(&[1, 64, 2, 64]), 67);
+    for due in [0, 1, 0, 1] {
+        making.expect("sent 0 0", SEND, [63, 0, 0], EMPTY);
+        making.expect(&format!("sent 0 {due}"), SEND, [1, 0, 0], EMPTY);
+    }
+    // past the last round comes round 0
+    making.set(SET_SENDER, ROUNDS, 0, u32::MAX);
+    making.expect("sent 0 0", SEND, [64, 0, 0], EMPTY);
+    making.expect("written 3", ASK, [0, 9, 0], EMPTY);
+}
+
 /// Every number of the table, by every call that can answer it, but 10.
 pub fn numbers(making: &mut Making) {
     more_paper(making);
@@ -299,4 +323,5 @@ pub fn numbers(making: &mut Making) {
     arrivals(making);
     heads(making);
     told_by_markers(making);
+    exactly(making);
 }

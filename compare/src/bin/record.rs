@@ -20,8 +20,8 @@ mod stage;
 mod taking;
 
 use chance::Chance;
-use making::Making;
-use player::{printed, unseen, Second, Step};
+use making::{written, Making};
+use player::{printed, unseen, Second, Step, MARKER};
 
 /// The player reads less.
 const MOST: usize = 65_535;
@@ -32,9 +32,9 @@ fn main() -> std::io::Result<()> {
     provoking::paper(&mut making);
     let wrapped = making::sessions(&mut making, &mut Chance::new(1962));
     provoking::numbers(&mut making);
-    let mut input: Vec<u8> = making.steps.iter().flat_map(Step::written).collect();
+    let mut input: Vec<u8> = making.steps.iter().flat_map(written).collect();
     // the last step lacks a byte, so that it is none
-    let cut = Step { kind: player::MARKER, numbers: [0; 3], bytes: vec![0, 2, 1] }.written();
+    let cut = written(&Step { kind: MARKER, numbers: [0; 3], bytes: vec![0, 2, 1] });
     input.extend(&cut[..cut.len() - 1]);
     assert!(input.len() <= MOST, "{} bytes", input.len());
     let output = printed(&input, &Second);

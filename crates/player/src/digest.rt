@@ -1,6 +1,5 @@
 // A digest of a row of numbers: each in turn is added to the digest so far, times a constant, modulo a prime above 2^32. So one figure or one
 // byte that is another always makes another digest.
-
 use plan::Plan;
 
 // The largest prime below 2^40.
