@@ -35,7 +35,7 @@ fn open(p: Plan, size: u32, lent: u32) -> Ends {
     let stage = receiver::open(p, size);
     let sender = booth.sender;
     let receiver = stage.receiver;
-    text::say_answer(text::OPENED, booth.number as u64, stage.number as u64);
+    text::say_answer(b" opened  ", booth.number as u64, stage.number as u64);
     Ends {
         sender,
         receiver,
@@ -43,10 +43,10 @@ fn open(p: Plan, size: u32, lent: u32) -> Ends {
     }
 }
 
-pub fn open_record(record: &[u8], size: u32, lent: u32) -> Ends {
+pub(crate) fn open_record(record: &[u8], size: u32, lent: u32) -> Ends {
     let read = plan::read_plan(record);
     let p = read.plan;
-    text::say_answer(text::PLAN, read.number as u64, 0);
+    text::say_answer(b" plan    ", read.number as u64, 0);
     open(p, size, lent)
 }
 
@@ -107,14 +107,14 @@ fn arrive(r: Receiver, st: Step, bytes: &[u8], store: &mut [u8]) -> Receiver {
     if st.kind == 7 {
         let marker = receiver::marker_arrives(r, st.a, bytes, store);
         let marked = marker.next;
-        text::say_answer(text::ARRIVED, marker.number as u64, 0);
+        text::say_answer(b" arrived ", marker.number as u64, 0);
         return marked;
     }
     let data = data_bytes(st.b);
     let n = at_most(st.c, MOST_DATA);
     let arrived = receiver::data_arrives(r, st.a, &data[0..n], store);
     let next = arrived.next;
-    text::say_answer(text::ARRIVED, arrived.number as u64, 0);
+    text::say_answer(b" arrived ", arrived.number as u64, 0);
     next
 }
 
@@ -136,7 +136,7 @@ fn take_run(r: Receiver, room: u32, words: u32, store: &[u8], out: &mut [u8]) ->
     let t = taking::take_run(r, store, &mut out[0..n], &mut log[0..m]);
     let ended = t.ended;
     let next = t.next;
-    text::say_answer(text::TAKES, t.taken as u64, t.bytes as u64);
+    text::say_answer(b" takes   ", t.taken as u64, t.bytes as u64);
     text::say_ended(ended);
     text::say_digest(digest::words(&log));
     text::say_digest(digest::bytes(out));
@@ -171,7 +171,7 @@ fn at_stage(r: Receiver, st: Step, bytes: &[u8], store: &mut [u8]) -> Receiver {
 }
 
 // One step, with the bytes that it has.
-pub fn play(e: Ends, st: Step, bytes: &[u8], store: &mut [u8]) -> Ends {
+pub(crate) fn play(e: Ends, st: Step, bytes: &[u8], store: &mut [u8]) -> Ends {
     let mut next = e;
     let kind = st.kind;
     let s = e.sender;
@@ -200,7 +200,7 @@ pub fn play(e: Ends, st: Step, bytes: &[u8], store: &mut [u8]) -> Ends {
 }
 
 // What a step left.
-pub fn say_left(e: Ends, store: &[u8]) {
+pub(crate) fn say_left(e: Ends, store: &[u8]) {
     let s = e.sender;
     let r = e.receiver;
     text::say_digest(figures::of_sender(s));

@@ -11,12 +11,12 @@ fn mixed(so_far: u64, word: u64) -> u64 {
     (so_far % PRIME * TIMES + word % PRIME + 1) % PRIME
 }
 
-pub fn with(so_far: u64, figure: u32) -> u64 {
+pub(crate) fn with(so_far: u64, figure: u32) -> u64 {
     mixed(so_far, figure as u64)
 }
 
 // One figure of every line.
-pub fn row(so_far: u64, figures: [u32; Plan::MOST_LINES]) -> u64 {
+pub(crate) fn row(so_far: u64, figures: [u32; Plan::MOST_LINES]) -> u64 {
     let mut digest = so_far;
     let mut i: usize = 0;
     while i < Plan::MOST_LINES {
@@ -26,7 +26,7 @@ pub fn row(so_far: u64, figures: [u32; Plan::MOST_LINES]) -> u64 {
     digest
 }
 
-pub fn bytes(all: &[u8]) -> u64 {
+pub(crate) fn bytes(all: &[u8]) -> u64 {
     let mut digest: u64 = 0;
     let mut i: usize = 0;
     while i < all.len() {
@@ -36,7 +36,7 @@ pub fn bytes(all: &[u8]) -> u64 {
     digest
 }
 
-pub fn words(all: &[u64]) -> u64 {
+pub(crate) fn words(all: &[u64]) -> u64 {
     let mut digest: u64 = 0;
     let mut i: usize = 0;
     while i < all.len() {

@@ -12,7 +12,7 @@ use plan::Plan;
 use receiving::Receiver;
 use sending::Sender;
 
-pub fn sender_with(s: Sender, row: u32, line: u32, value: u32) -> Sender {
+pub(crate) fn sender_with(s: Sender, row: u32, line: u32, value: u32) -> Sender {
     let mut next = s;
     let mut p = s.plan;
     let i = line as usize;
@@ -36,7 +36,7 @@ pub fn sender_with(s: Sender, row: u32, line: u32, value: u32) -> Sender {
     next
 }
 
-pub fn receiver_with(r: Receiver, row: u32, line: u32, value: u32) -> Receiver {
+pub(crate) fn receiver_with(r: Receiver, row: u32, line: u32, value: u32) -> Receiver {
     let mut next = r;
     let mut p = r.plan;
     let mut rings = r.rings;
@@ -82,7 +82,7 @@ fn of_plan(p: Plan) -> u64 {
     digest::row(digest::with(so_far, p.interval), quanta)
 }
 
-pub fn of_sender(s: Sender) -> u64 {
+pub(crate) fn of_sender(s: Sender) -> u64 {
     let p = s.plan;
     let rounds = s.rounds;
     let counters = s.counters;
@@ -90,7 +90,7 @@ pub fn of_sender(s: Sender) -> u64 {
     digest::row(digest::row(so_far, rounds), counters)
 }
 
-pub fn of_receiver(r: Receiver) -> u64 {
+pub(crate) fn of_receiver(r: Receiver) -> u64 {
     let p = r.plan;
     let rings = r.rings;
     let turns = r.turns;

@@ -56,7 +56,7 @@ fn with_bytes(st: Step, input: &[u8], at: usize) -> Step
 }
 
 // The step at a place of the input.
-pub fn step_at(input: &[u8], at: usize) -> Step
+pub(crate) fn step_at(input: &[u8], at: usize) -> Step
     ensures { λ r. ⌜ (r .from ≤ r .end) × (r .end ≤ length (now (input .entry))) ⌝ }
 {
     let Reading::Number(kind, after_kind) = recording::number_at(input, at) else {

@@ -7,7 +7,7 @@ use Rattle.player.proofs.calls.take_run.Tie as tie
 
 slice-aggregate-words : tie.Need-slice-aggregate-words
 slice-aggregate-words c =
-    let t = c .before .before .before .before .before .before .before in
+    let t = c .before .before .before .before .before .before .before .before in
     simp (length-append, length-take, length-drop) (omega (arith, simp (length-take, length-drop) at (t .take-run .kept .1 .1 .1 .0)))
 
 pub take-run-spec : {M : Type 1} → statement M
@@ -23,6 +23,7 @@ take-run-spec =
     (λ c. search needs)
     (λ c. search needs)
     (λ c κs. search needs)
+    (λ c. search needs)
     (λ c κs. search needs)
     (λ c κs. search needs)
     slice-aggregate-words
