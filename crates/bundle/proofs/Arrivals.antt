@@ -16,7 +16,6 @@ use Rattle.theory.specs.System.{Item, State, positions, arrived, arriveOf, drop
 use Rattle.theory.specs.System as T
 use Rattle.theory.proofs.Lines.{arrived-position, dropped-position, dropped-store}
 use Rattle.theory.proofs.Histories.{at-field, at-all}
-use Rattle.ring.specs.Queue.{Entry}
 use Rattle.receiving.specs.declared.Receiver.{Receiver}
 use Rattle.receiving.specs.declared.Turns.{Turns}
 use Rattle.receiving.specs.Receiver.{turnOf, receiverOk, storeFits}

@@ -1,12 +1,11 @@
 -- Demand 2 of the booth's end, of every history of calls. Assumes nothing.
-use Prim.Native.Nat.{ℕ, zero, suc, _+_, _*_, _≤_, _<_}
-use native.Mathlib.Nat.{zero-add, add-zero, add-suc, suc-add}
+use Prim.Native.Nat.{ℕ, suc, _+_, _*_, _≤_, _<_}
 use native.Mathlib.Numerals.{add-one}
 use native.Mathlib.Omega.{arith}
 use mathlib.Core.Bool.{Bool, true, false}
-use mathlib.Core.List.{List, [], _∷_, _++_}
+use mathlib.Core.List.{List, [], _∷_, _++_, append-nil}
 use mathlib.Core.Path.{_≡_, refl, sym, ap, _∙_, subst}
-use lib.ListN.{length, getD, length-append, List·getD-append}
+use lib.ListN.{length, length-append, List·getD-append}
 use lib.Seq.{getD-append-seam}
 use Rattle.numbers.specs.Writing.{written}
 use Rattle.plan.specs.declared.Plan.{Plan}
@@ -27,12 +26,12 @@ use Rattle.sending.specs.Sender.{openedSender, openSender, notSent, sendOf, mar
 use Rattle.sending.specs.InTheory.{isPacket, inTheory, figuresOf}
 use Rattle.sending.proofs.Laws.{as-asked}
 use Rattle.sending.proofs.Steps.{packet-goes, other-refused}
-use Rattle.sending.proofs.InTheory.{sound, packet-fits, On, Agrees, send-on, one-send, opens, opened-on, opened-shows}
+use Rattle.sending.proofs.InTheory.{sound, packet-fits, On, Agrees, one-send, opens, opened-on, opened-shows}
 use Rattle.bundle.specs.Events.{sentBy}
 use Rattle.bundle.specs.Log.{markOf}
-use Rattle.bundle.specs.Worlds.{World, Call, sends, asks, arrives, loses, takes, sendSeen, seen, boothAfter, call, calls, sentIn}
+use Rattle.bundle.specs.Worlds.{World, Call, sends, asks, arrives, loses, takes, sendSeen, seen, boothAfter, calls, sentIn}
 use Rattle.bundle.specs.Booth.{carriedBy, endedBy, andPacket, Keeps, EveryHistory}
-use Rattle.bundle.proofs.Histories.{ask-sends, arrive-sends, lose-sends, take-sends}
+use Rattle.bundle.proofs.Histories.{along, calls-and, each-and, ask-sends, arrive-sends, lose-sends, take-sends}
 
 -- a sender on a plan sends a packet in range, and nothing else
 pub sent-now : (p : Plan) (w : World) → On p (w .sender) → (x : List ℕ) → isPacket p (length x) ≡ true → sentBy (seen w (sends x)) ≡ x ∷ []
@@ -43,63 +42,70 @@ sent-none : (p : Plan) (w : World) → On p (w .sender) → (x : List ℕ) → i
 sent-none p w on x e =
     ap (λ (r : SendResult). sentBy (sendSeen x (r .answer))) (other-refused (w .sender) (on .good) (length x) (rw (on .plan) e))
 
--- ---- the packets sent are in range
+-- ---- one packet behind others
+
+module _ (packets : List (List ℕ)) (x : List ℕ) where
+  more-same : (m : ℕ) → m < length packets → nth (andPacket packets x) m ≡ nth packets m
+  more-same m l = List·getD-append packets (x ∷ []) [] m l
+
+  more-last : nth (andPacket packets x) (length packets) ≡ x
+  more-last = getD-append-seam packets x [] []
+
+  one-more : length (andPacket packets x) ≡ suc (length packets)
+  one-more = length-append packets (x ∷ []) ∙ add-one (length packets)
+
+  -- what holds of them all holds of each place
+  more-each : (P : List ℕ → Type 0) → ((m : ℕ) → m < length packets → P (nth packets m)) → P x → (m : ℕ) → m < suc (length packets) → P (nth (andPacket packets x) m)
+  more-each P all one m l = go (native.Mathlib.Decide.decLt m (length packets))
+    where
+      go : Dec (m < length packets) → P (nth (andPacket packets x) m)
+      go (yes d) = rw (more-same m d) (all m d)
+      go (no d) = let last : m ≡ length packets = omega arith in rw (last, more-last) one
+
+-- ---- once these packets are sent, all in range, the sender is where the first form is, for any sizes that begin with theirs
 
 abbrev InRange : Plan → List (List ℕ) → Type 0
 InRange p packets = (n : ℕ) → n < length packets → isPacket p (length (nth packets n)) ≡ true
 
--- ---- from a sender that is where the first form is after n packets, the calls go on to where it is after theirs too
-
 module _ (p : Plan) (start : Figures) where
-  pub record Ends (w : World) (h : List Call) (packets : List (List ℕ)) : Type 0 where
+  pub record Ran (packets : List (List ℕ)) (s : Sender) : Type 0 where
     pub in-range : InRange p packets
-    pub agrees : (all : ℕ → ℕ) (n : ℕ) → Agrees p start (w .sender) all n → ((m : ℕ) → m < length packets → all (n + m) ≡ sizes packets m)
-        → Agrees p start (calls w h .sender) all (n + length packets)
+    pub agrees : (all : ℕ → ℕ) → ((m : ℕ) → m < length packets → all m ≡ sizes packets m) → Agrees p start s all (length packets)
 
-  -- a call that sends nothing and leaves the sender
-  idle : (w : World) (e : Call) (h : List Call) → boothAfter w e ≡ w .sender → sentBy (seen w e) ≡ []
-      → Ends (call w e) h (sentIn (call w e) h) → Ends w (e ∷ h) (sentIn w (e ∷ h))
-  idle w e h stays none rest =
-      let same : sentIn w (e ∷ h) ≡ sentIn (call w e) h = ap (λ (l : List (List ℕ)). l ++ sentIn (call w e) h) none in
-      rw same (record {
-        in-range = rest .in-range;
-        agrees = λ all n a is. rest .agrees all n (subst (λ (s : Sender). Agrees p start s all n) (sym stays) a) is;
-      })
+  pub on-plan : {packets : List (List ℕ)} {s : Sender} → Ran packets s → On p s
+  on-plan {packets} r = r .agrees (sizes packets) (λ m l. refl) .0
 
   -- a packet that is sent
-  goes : (w : World) (x : List ℕ) (h : List Call) → On p (w .sender) → isPacket p (length x) ≡ true
-      → Ends (call w (sends x)) h (sentIn (call w (sends x)) h) → Ends w (sends x ∷ h) (sentIn w (sends x ∷ h))
-  goes w x h on e rest =
-      let packets : List (List ℕ) = sentIn (call w (sends x)) h in
-      let same : sentIn w (sends x ∷ h) ≡ x ∷ packets = ap (λ (l : List (List ℕ)). l ++ packets) (sent-now p w on x e) in
-      rw same (record {
-        in-range = ranged packets (rest .in-range);
-        agrees = λ all n a is.
-            let first : all n ≡ length x = rw add-zero at (is 0 (omega arith)) in
-            rw add-suc
-            (rw suc-add at (rest .agrees all (suc n) (one-send p start (w .sender) all n (length x) e first a)
-            (λ m l. rw (suc-add, ← add-suc) (is (suc m) (omega arith)))));
-      })
-    where
-      ranged : (packets : List (List ℕ)) → InRange p packets → InRange p (x ∷ packets)
-      ranged packets r zero l = e
-      ranged packets r (suc n) l = r n (omega arith)
+  one-goes : (packets : List (List ℕ)) (s : Sender) (x : List ℕ) → isPacket p (length x) ≡ true → Ran packets s → Ran (andPacket packets x) (sendOf s (length x) .next)
+  one-goes packets s x e r =
+      let n = one-more packets x in
+      record {
+        in-range = λ m l. more-each packets x (λ b. isPacket p (length b) ≡ true) (r .in-range) e m (rw n at l);
+        agrees = λ all is.
+            let first : (m : ℕ) → m < length packets → all m ≡ sizes packets m = λ m l. is m (omega (arith, n)) ∙ ap length (more-same packets x m l) in
+            let last : all (length packets) ≡ length x = is (length packets) (omega (arith, n)) ∙ ap length (more-last packets x) in
+            rw n (one-send p start s all (length packets) (length x) e last (r .agrees all first));
+      }
 
-  run : (h : List Call) (w : World) → On p (w .sender) → Ends w h (sentIn w h)
-  run [] w on = record { in-range = λ n l. absurd (omega arith); agrees = λ all n a is. rw add-zero a }
-  run (sends x ∷ h) w on = go (isPacket p (length x)) refl (run h (call w (sends x)))
+  one-call : (packets : List (List ℕ)) (w : World) (e : Call) → Ran packets (w .sender) → Ran (packets ++ sentBy (seen w e)) (boothAfter w e)
+  one-call packets w (sends x) r = go (isPacket p (length x)) refl
     where
-      go : (t : Bool) → isPacket p (length x) ≡ t → (On p (call w (sends x) .sender) → Ends (call w (sends x)) h (sentIn (call w (sends x)) h))
-          → Ends w (sends x ∷ h) (sentIn w (sends x ∷ h))
-      go true e rest = goes w x h on e (rest (send-on p (w .sender) (length x) on e))
-      go false e rest =
+      on : On p (w .sender)
+      on = on-plan r
+
+      go : (t : Bool) → isPacket p (length x) ≡ t → Ran (packets ++ sentBy (seen w (sends x))) (sendOf (w .sender) (length x) .next)
+      go true e = rw (sent-now p w on x e) (one-goes packets (w .sender) x e r)
+      go false e =
           let stays : sendOf (w .sender) (length x) .next ≡ w .sender =
           ap (λ (r : SendResult). r .next) (other-refused (w .sender) (on .good) (length x) (rw (on .plan) e)) in
-          idle w (sends x) h stays (sent-none p w on x e) (rest (subst (On p) (sym stays) on))
-  run (asks i out ∷ h) w on = idle w (asks i out) h refl (ask-sends w i out) (run h (call w (asks i out)) on)
-  run (arrives i ∷ h) w on = idle w (arrives i) h refl (arrive-sends w i) (run h (call w (arrives i)) on)
-  run (loses i ∷ h) w on = idle w (loses i) h refl (lose-sends w i) (run h (call w (loses i)) on)
-  run (takes out ∷ h) w on = idle w (takes out) h refl (take-sends w out) (run h (call w (takes out)) on)
+          rw (sent-none p w on x e, append-nil, stays) r
+  one-call packets w (asks i out) r = rw (ask-sends w i out, append-nil) r
+  one-call packets w (arrives i) r = rw (arrive-sends w i, append-nil) r
+  one-call packets w (loses i) r = rw (lose-sends w i, append-nil) r
+  one-call packets w (takes out) r = rw (take-sends w out, append-nil) r
+
+  all-calls : (w : World) → Ran [] (w .sender) → (h : List Call) → Ran (sentIn w h) (calls w h .sender)
+  all-calls w first = along (λ h. Ran (sentIn w h) (calls w h .sender)) first (λ h e now. rw (each-and sentBy h e w, calls-and h e w) (one-call (sentIn w h) (calls w h) e now))
 
 -- ---- from the opening
 
@@ -132,51 +138,40 @@ module _ (p : Plan) (good : planOk p ≡ true) (sixteen : length (p .quanta) ≡
     abbrev n : ℕ
     n = length packets
 
-    ends : Ends kept (figuresOf (w .sender)) w h packets
-    ends = run kept (figuresOf (w .sender)) h w first
-
-    -- the sender is where the first form is, for any sizes that begin with those of its packets
-    ran : (all : ℕ → ℕ) → ((m : ℕ) → m < n → all m ≡ sizes packets m) → Agrees kept (figuresOf (w .sender)) s all n
+    ran : Ran kept (figuresOf (w .sender)) packets s
     unfolding firstAfter
-    ran all same = rw zero-add at (ends .agrees all 0 (first, refl) (λ m l. rw zero-add (same m l)))
+    ran = all-calls kept (figuresOf (w .sender)) w (record { in-range = λ n l. absurd (omega arith); agrees = λ all is. (first, refl) }) h
 
     pub on : On kept s
-    on = ran (sizes packets) (λ m l. refl) .0
+    on = on-plan kept (figuresOf (w .sender)) ran
 
     opens-so : Shows theirs (figuresOf (w .sender)) (λ i. 0) 0
     opens-so = subst (λ (s : Sender). Shows theirs (figuresOf s) (λ i. 0) 0) (sym begins) (opened-shows p good sixteen)
 
     fit : Fit theirs (sizes packets) n
-    fit m l i line = packet-fits kept kept-ok (sizes packets m) (ends .in-range m l) i line
+    fit m l i line = packet-fits kept kept-ok (sizes packets m) (ran .in-range m l) i line
 
     shows : Shows theirs (figuresOf s) (carriedBy kept packets) (endedBy kept packets)
-    shows = rw (ran (sizes packets) (λ m l. refl) .1) (promised .forms-agree (figuresOf (w .sender)) opens-so (sizes packets) n fit)
+    shows = rw (ran .agrees (sizes packets) (λ m l. refl) .1) (promised .forms-agree (figuresOf (w .sender)) opens-so (sizes packets) n fit)
 
     -- one packet more
     module _ (x : List ℕ) (packet : isPacket kept (length x) ≡ true) where
       abbrev more : ℕ → ℕ
       more = sizes (andPacket packets x)
 
-      more-same : (m : ℕ) → m < n → more m ≡ sizes packets m
-      more-same m l = ap length (List·getD-append packets (x ∷ []) [] m l)
+      same : (m : ℕ) → m < n → more m ≡ sizes packets m
+      same m l = ap length (more-same packets x m l)
 
-      more-last : more n ≡ length x
-      more-last = ap length (getD-append-seam packets x [] [])
-
-      one-more : length (andPacket packets x) ≡ suc n
-      one-more = length-append packets (x ∷ []) ∙ add-one n
+      last : more n ≡ length x
+      last = ap length (more-last packets x)
 
       more-fit : Fit theirs more (suc n)
-      more-fit m l i line = packet-fits kept kept-ok (more m) (go (native.Mathlib.Decide.decLt m n)) i line
-        where
-          go : Dec (m < n) → isPacket kept (more m) ≡ true
-          go (yes d) = rw (more-same m d) (ends .in-range m d)
-          go (no d) = let last : m ≡ n = omega arith in rw (last, more-last) packet
+      more-fit m l i line = more-each packets x (λ b. theirs .charge i (length b) ≤ theirs .charge i (kept .max)) (λ k d. fit k d i line) (packet-fits kept kept-ok (length x) packet i line) m l
 
       due : firstDue theirs (figuresOf s) (length x) ≡ S.dueAfter theirs more n
       due =
           let end = firstAfter theirs (figuresOf (w .sender)) more n in
-          ap (λ (f : Figures). firstDue theirs f (length x)) (ran more more-same .1) ∙ ap (firstDue theirs end) (sym more-last)
+          ap (λ (f : Figures). firstDue theirs f (length x)) (ran .agrees more same .1) ∙ ap (firstDue theirs end) (sym last)
           ∙ promised .dues-agree (figuresOf (w .sender)) opens-so more n more-fit
 
       answers : sendOf s (length x) .answer ≡ Went (s .line) (S.dueAfter theirs more n)
@@ -186,12 +181,12 @@ module _ (p : Plan) (good : planOk p ≡ true) (sixteen : length (p .quanta) ≡
 
       -- the packet's own length does not count before it is sent
       before : S.carried theirs more n ≡ carriedBy kept packets
-      before = carried-by-packets theirs more (sizes packets) n more-same
+      before = carried-by-packets theirs more (sizes packets) n same
 
       shares : S.ends theirs (carriedBy kept packets) (length x) ≡ true → (i : ℕ) → i < kept .lines
           → (endedBy kept (andPacket packets x) * quantum kept i ≤ carriedBy kept (andPacket packets x) i)
           × (carriedBy kept (andPacket packets x) i < endedBy kept (andPacket packets x) * quantum kept i + chargeOf (linePlan kept i) (kept .max))
-      shares e i l = rw one-more (promised .share more n more-fit (rw (before, more-last) e) i l)
+      shares e i l = rw (one-more packets x) (promised .share more n more-fit (rw (before, last) e) i l)
 
     refuses : (size : ℕ) → isPacket kept size ≡ false → sendOf s size ≡ notSent s 4
     refuses size e = other-refused s (on .good) size (rw (on .plan) e)
@@ -206,7 +201,7 @@ module _ (p : Plan) (good : planOk p ≡ true) (sixteen : length (p .quanta) ≡
         ∙ ap (λ (c : ℕ). written (markerBytes (markerOf i (S.roundAt (quantum kept i) (carriedBy kept packets i)) c)) out) (shows .counter i l)
 
     pub sent-in-range : InRange (trimmed p) (sentIn w h)
-    sent-in-range = ends .in-range
+    sent-in-range = ran .in-range
 
     pub keeps : Keeps (trimmed p) (sentIn w h) (calls w h .sender)
     keeps = record {

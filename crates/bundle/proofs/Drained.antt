@@ -22,7 +22,7 @@ use Rattle.receiving.specs.declared.Taken.the-variants.{Data, Refused}
 use Rattle.receiving.specs.Taking.{takeOf}
 use Rattle.bundle.specs.Worlds.{World, Call, takes, takeSeen, seen, call, calls}
 use Rattle.bundle.specs.Log.{stepsOf, log, entryOf}
-use Rattle.bundle.specs.Words.{andThen, Opens, Roomy, queue, heldBelow, NoPacket}
+use Rattle.bundle.specs.Words.{andThen, Opens, Roomy, queueAt, heldBelow, NoPacket}
 use Rattle.bundle.specs.Demands.{theirs, opened, after, logOf, system, Near}
 use Rattle.bundle.proofs.Histories.{log-append}
 use Rattle.bundle.proofs.Senders.{kept-good}
@@ -87,13 +87,13 @@ module _ (p : Plan) (size : ℕ) (store : List ℕ) (o : Opens p size store) whe
       ∙ ap (λ (l : List Step). take ∷ l) (subst (λ (w : World). log w (map takes outs) ≡ W.takes (length outs)) on rest)
 
   -- the queues, and the items held
-  pub queued : (h : List Call) → Near p size store h → (i : ℕ) → i < p .lines → queue (world h) i ≡ map (entryOf (trimmed p) i) (state h .line i .store)
+  pub queued : (h : List Call) → Near p size store h → (i : ℕ) → i < p .lines → queueAt (world h) i ≡ map (entryOf (trimmed p) i) (state h .line i .store)
   queued h near i line = read-back _ _ _ _ (reaches p size store o h near .meets .far .holds i line)
 
   held-below : (h : List Call) → Near p size store h → (n : ℕ) → n ≤ p .lines → heldBelow (world h) n ≡ W.storedBelow (state h .line) n
   held-below h near zero few = refl
   held-below h near (suc n) few =
-      let one : length (queue (world h) n) ≡ length (state h .line n .store) = ap length (queued h near n few) ∙ length-map (state h .line n .store) (entryOf (trimmed p) n) in
+      let one : length (queueAt (world h) n) ≡ length (state h .line n .store) = ap length (queued h near n few) ∙ length-map (state h .line n .store) (entryOf (trimmed p) n) in
       omega (arith, held-below h near n (omega arith), one)
 
   -- as many takes with room as items held

@@ -2,7 +2,7 @@
 use Prim.Native.Nat.{ℕ, _+_}
 use native.Mathlib.Omega.{arith}
 use mathlib.Core.Bool.{Bool, true, false, cond}
-use mathlib.Core.List.{List, [], _∷_, _++_, map, map-append, append-assoc}
+use mathlib.Core.List.{List, [], _∷_, _++_, map, map-append, append-assoc, append-nil}
 use mathlib.Core.Path.{_≡_, refl, sym, ap, _∙_}
 use lib.Dec.{eqb}
 use Rattle.numbers.specs.declared.Written.{Written}
@@ -17,6 +17,16 @@ use Rattle.bundle.specs.Events.{Parcel, Event, sent, marked, stored, tur
 use Rattle.bundle.specs.Events.{Handed, sentBy, handedBy, reportedBy, each, sum}
 use Rattle.bundle.specs.Worlds.{World, Call, sends, asks, arrives, loses, takes, landing, landSeen, askSeen, arriveSeen, loseSeen, takeSeen, seen, call, calls, events, sentIn, handedIn, handedOut, reportedIn}
 use Rattle.bundle.specs.Log.{stepsOf, log}
+use Rattle.bundle.specs.Words.{andThen}
+
+-- ---- the one induction: what holds before any call, and with one call more wherever it holds, holds of every history
+
+pub along : (P : List Call → Type 0) → P [] → ((h : List Call) (e : Call) → P h → P (andThen h e)) → (h : List Call) → P h
+along P first next h = on h [] first
+  where
+    on : (g h : List Call) → P h → P (h ++ g)
+    on [] h now = rw append-nil now
+    on (e ∷ g) h now = rw (← append-assoc h (e ∷ []) g) (on g (andThen h e) (next h e now))
 
 -- ---- one history behind another
 
@@ -42,6 +52,18 @@ each-on f h g w = ap (each f) (events-append h g w) ∙ each-append f (events w 
 
 pub sum-on : (f : Event → ℕ) (h g : List Call) (w : World) → sum f (events w (h ++ g)) ≡ sum f (events w h) + sum f (events (calls w h) g)
 sum-on f h g w = ap (sum f) (events-append h g w) ∙ sum-append f (events w h) (events (calls w h) g)
+
+-- one call more
+
+pub calls-and : (h : List Call) (e : Call) (w : World) → calls w (andThen h e) ≡ call (calls w h) e
+calls-and h e w = calls-append h (e ∷ []) w
+
+pub each-and : {A : Type 0} (f : Event → List A) (h : List Call) (e : Call) (w : World)
+    → each f (events w (andThen h e)) ≡ each f (events w h) ++ f (seen (calls w h) e)
+each-and f h e w = each-on f h (e ∷ []) w ∙ ap (λ (l : List _). each f (events w h) ++ l) (append-nil (f (seen (calls w h) e)))
+
+pub sum-and : (f : Event → ℕ) (h : List Call) (e : Call) (w : World) → sum f (events w (andThen h e)) ≡ sum f (events w h) + f (seen (calls w h) e)
+sum-and f h e w = sum-on f h (e ∷ []) w ∙ omega arith
 
 pub log-append : (h g : List Call) (w : World) → log w (h ++ g) ≡ log w h ++ log (calls w h) g
 log-append = each-on stepsOf

@@ -6,7 +6,7 @@ use mathlib.Core.Path.{_≡_, refl, sym, ap, _∙_, subst}
 use native.Mathlib.Omega.{arith}
 use borrow.Author.Tests.{eq-eqb, ne-eqb}
 use lib.Dec.{eqb}
-use lib.ListN.{length, drop}
+use lib.ListN.{drop}
 use Rattle.numbers.specs.Wrap.{half}
 use Rattle.plan.specs.declared.Plan.{Plan}
 use Rattle.plan.specs.Limits.{mostLines}
@@ -30,7 +30,6 @@ use Rattle.receiving.proofs.Stages.{HoldsOn}
 use Rattle.receiving.proofs.Valid.{take-valid}
 use Rattle.receiving.proofs.Dropping.{taken-holds, taken-sound, taken-plan}
 use Rattle.receiving.proofs.Heads.{empty-waits, head-taken}
-use Rattle.bundle.specs.Events.{Parcel}
 use Rattle.bundle.specs.Worlds.{World}
 use Rattle.bundle.specs.Log.{parcelOf, entryOf}
 use Rattle.bundle.proofs.Meeting.{turnAt, theirs, AllFit, Shows, Meets}

@@ -11,7 +11,6 @@ use Rattle.plan.proofs.Laws.{in-range, first-ones}
 use Rattle.theory.specs.Sending.{roundAt, counterAt}
 use Rattle.theory.specs.System as T
 use Rattle.receiving.specs.declared.Receiver.{Receiver}
-use Rattle.receiving.specs.declared.Turn.{Turn}
 use Rattle.receiving.specs.Receiver.{turnOf, openedReceiver, openReceiver}
 use Rattle.receiving.specs.Stage.{stage}
 use Rattle.receiving.proofs.Opening.{is-open, open-sound, open-empty}

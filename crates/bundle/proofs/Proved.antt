@@ -21,14 +21,12 @@ use Rattle.theory.proofs.Lines.{fetched-lost}
 use Rattle.theory.proofs.Choose.{choose-wins}
 use Rattle.theory.proofs.Histories.{at-field, run-append, outs-append, near-split}
 use Rattle.theory.proofs.Lossless.{lossless-near}
-use Rattle.receiving.specs.declared.Receiver.{Receiver}
 use Rattle.receiving.specs.declared.Taken.{Taken}
 use Rattle.receiving.specs.declared.Taken.the-variants.{Waiting, Data, Missing, Behind, Refused}
 use Rattle.receiving.specs.Taking.{takeOf}
-use Rattle.receiving.proofs.Opening.{is-open, open-valid}
 use Rattle.bundle.specs.Worlds.{World, Call, takes, takeSeen, call, handedIn}
 use Rattle.bundle.specs.Log.{stepsOf, log}
-use Rattle.bundle.specs.Words.{andThen, Opens, Names, NoPacket}
+use Rattle.bundle.specs.Words.{Opens, Names, NoPacket}
 use Rattle.bundle.specs.Demands.{theirs, opened, after, logOf, system, sentOf, Near, NothingLost}
 use Rattle.bundle.specs.Demands.{LogShown, ChargedBytes, SameRule, InOrder, AllOut, Reports, Order, Cleared, Valid, OnlyForCause, Promises}
 use Rattle.bundle.proofs.Meeting.{AllFit}
@@ -37,7 +35,7 @@ use Rattle.bundle.proofs.Senders.{kept-good, keeps, rule, share, marker
 use Rattle.bundle.proofs.Arrivals.{land-stored}
 use Rattle.bundle.proofs.Takes.{says}
 use Rattle.bundle.proofs.Runs.{bytes-append, plan-sound, far, near-and, some, reaches}
-use Rattle.bundle.proofs.Refusals.{calls-valid, calls-size}
+use Rattle.bundle.proofs.Queues.{size-kept, queues-kept}
 use Rattle.bundle.proofs.Drained.{none-queued, answers, queued, drained}
 
 -- ---- lists
@@ -228,13 +226,13 @@ module _ (p : Plan) (size : ℕ) (store : List ℕ) (o : Opens p size store) whe
       (subst (λ (l : List Step). W.NoPacketIn (F.after plan l .line i .store)) (sym (drained p size store o h outs many room near)) (far p size store o .cleared (steps h) marks i line)))
 
   valid : Valid p size store
-  valid h = (keeps p size store o h .valid, calls-valid h begin (open-valid p size store (o .sixteen) (o .receiver) (o .long)))
+  valid h = (keeps p size store o h .valid, queues-kept p size (o .sixteen) (o .receiver) begin refl (o .long) h .valid)
 
   only-for-cause : OnlyForCause p size store
   only-for-cause = record {
     ask = marker-written p size store o;
     land = λ h near i x rest e room. land-stored (trimmed p) (world h) (state h) (reaches p size store o h near .meets) (kept-good p size store o) i x rest e
-        (rw (calls-size h begin ∙ ap (λ (r : Receiver). r .rings .size) (is-open p size (o .receiver))) room);
+        (rw (size-kept p size (o .sixteen) (o .receiver) begin refl (o .long) h) room);
     take = λ h out near room k e.
         let n = near-and p size store o h (takes out) near .0 in
         room-says (trimmed p) out _ (front plan (state h) .store) _

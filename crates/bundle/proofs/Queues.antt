@@ -2,12 +2,12 @@
 use Prim.Native.Nat.{ℕ, _+_, _*_, _≤_, _<_}
 use native.Mathlib.Omega.{arith}
 use mathlib.Core.Bool.{Bool, true, false, _&&_, cond}
-use mathlib.Core.List.{List, [], _∷_, _++_, append-assoc, append-nil}
+use mathlib.Core.List.{List, [], _∷_, _++_, append-nil}
+use mathlib.Core.Logic.{inl, inr}
 use mathlib.Core.Path.{_≡_, refl, ap, sym, _∙_, subst}
 use lib.Dec.{eqb}
-use lib.ListN.{length, drop}
+use lib.ListN.{length, drop, length-append, length-drop}
 use lib.Seq.{drop-append-le, drop-drop}
-use Rattle.numbers.specs.declared.Written.{Written}
 use Rattle.plan.specs.declared.Plan.{Plan}
 use Rattle.plan.specs.Limits.{mostLines}
 use Rattle.ring.specs.Queue.{Entry}
@@ -18,21 +18,22 @@ use Rattle.sending.specs.Sender.{sendOf, markerFrom}
 use Rattle.receiving.specs.declared.Receiver.{Receiver}
 use Rattle.receiving.specs.declared.Taken.{Taken}
 use Rattle.receiving.specs.declared.Taken.the-variants as taken
-use Rattle.receiving.specs.Receiver.{receiverOk, openReceiver}
+use Rattle.receiving.specs.Receiver.{openReceiver}
 use Rattle.receiving.specs.Arriving.{Arrival}
 use Rattle.receiving.specs.Taking.{takeOf}
 use Rattle.receiving.specs.Stage.{Stage, stage}
 use Rattle.receiving.specs.Stage as stage
 use Rattle.receiving.proofs.Stages.{Sound, HoldsOn}
-use Rattle.receiving.proofs.Storing.{left, kept, landed-holds, landed-sound, landed-plan}
+use Rattle.receiving.proofs.Storing.{Lands, left, kept as stored-on, landed-holds, landed-sound, landed-plan}
 use Rattle.receiving.proofs.Dropping.{taken-holds, taken-sound, taken-plan}
-use Rattle.receiving.proofs.Valid.{take-valid}
+use Rattle.receiving.proofs.Valid.{take-valid, kept-sizes}
 use Rattle.receiving.proofs.Opening.{is-open, open-sound, open-empty}
 use Rattle.bundle.specs.Events.{Parcel, Event, asEntry, storedBy, takenBy, each, sum}
 use Rattle.bundle.specs.Events as event
 use Rattle.bundle.specs.Worlds.{World, Call, sends, asks, arrives, loses, takes, sendSeen, landing, landSeen, arriveSeen, takeSeen, seen, landed, stageAfter, call, calls, events}
+use Rattle.bundle.specs.Words.{andThen}
 use Rattle.bundle.specs.Queues.{KeepsQueues, EveryHistory}
-use Rattle.bundle.proofs.Histories.{ask-cases, lose-cases}
+use Rattle.bundle.proofs.Histories.{along, calls-and, each-and, sum-and, ask-cases, lose-cases}
 use Rattle.bundle.proofs.Arrivals.{land-lands, land-valid}
 
 abbrev here : World → Stage
@@ -43,6 +44,7 @@ here w = stage (w .receiver) (w .store)
 pub record Goes (s t : Stage) (e : Event) : Type 0 where
   pub sound : Sound t
   pub plan : t .receiver .plan ≡ s .receiver .plan
+  pub size : t .receiver .rings .size ≡ s .receiver .rings .size
   pub enough : (i : ℕ) → i < s .receiver .plan .lines → (es : List Entry) → HoldsOn i s es → takenBy i e ≤ length (es ++ storedBy i e)
   pub holds : (i : ℕ) → i < s .receiver .plan .lines → (es : List Entry) → HoldsOn i s es → HoldsOn i t (drop (takenBy i e) (es ++ storedBy i e))
 
@@ -51,6 +53,7 @@ idle : (s : Stage) → Sound s → (e : Event) → ((i : ℕ) → takenBy i e �
 idle s ok e none empty = record {
   sound = ok;
   plan = refl;
+  size = refl;
   enough = λ i l es h. omega (arith, none i);
   holds = λ i l es h. rw (none i, empty i, append-nil) h;
 }
@@ -76,7 +79,7 @@ module _ (w : World) (ok : Sound (here w)) where
       none true j = refl
       none false j = refl
 
-      item : (t : Bool) → eqb (a .arrived .number) 0 ≡ t → (j : ℕ) → kept j i kind bytes a ≡ storedBy j (seen-as t)
+      item : (t : Bool) → eqb (a .arrived .number) 0 ≡ t → (j : ℕ) → stored-on j i kind bytes a ≡ storedBy j (seen-as t)
       item true q j = rw q (by (eqb i j))
         where
           by : (u : Bool) → cond (u && true) (asEntry x ∷ []) [] ≡ cond u (asEntry x ∷ []) []
@@ -88,12 +91,17 @@ module _ (w : World) (ok : Sound (here w)) where
           by true = refl
           by false = refl
 
+      landed-size : Lands (w .receiver) i kind bytes (w .store) a → a .arrived .next .rings .size ≡ w .receiver .rings .size
+      landed-size (inl (has, e)) = ap (λ (a : Arrival). a .arrived .next .rings .size) e
+      landed-size (inr (some, e)) = ap (λ (a : Arrival). a .arrived .next .rings .size) e
+
       go : (t : Bool) → eqb (a .arrived .number) 0 ≡ t → Goes (here w) (left a) (seen-as t)
       go t q =
           let lands = land-lands (w .receiver) (w .store) i x in
           record {
             sound = landed-sound (here w) ok i kind bytes a lands (land-valid (w .receiver) (w .store) i x (ok .good));
             plan = landed-plan (here w) ok i kind bytes a lands;
+            size = landed-size lands;
             enough = λ j l es h. omega (arith, none t j);
             holds = λ j l es h. rw (none t j, ← item t q j) (landed-holds (here w) ok i kind bytes a lands j l es h);
           }
@@ -105,6 +113,7 @@ module _ (w : World) (ok : Sound (here w)) where
       record {
         sound = taken-sound (here w) ok out (take-valid (w .receiver) (w .store) out (ok .good));
         plan = taken-plan (here w) ok out;
+        size = kept-sizes (w .receiver) (w .store) out .1;
         enough = λ i l es h. rw (taken-is (o .out) (o .result .answer) i, none-stored (o .out) (o .result .answer) i, append-nil) (taken-holds (here w) ok out i es h .enough);
         holds = λ i l es h. rw (taken-is (o .out) (o .result .answer) i, none-stored (o .out) (o .result .answer) i, append-nil) (taken-holds (here w) ok out i es h .holds);
       }
@@ -144,33 +153,69 @@ module _ (w : World) (ok : Sound (here w)) where
 
 -- ---- any calls
 
-pub sound-after : (h : List Call) (w : World) → Sound (here w) → Sound (here (calls w h))
-sound-after [] w ok = ok
-sound-after (e ∷ h) w ok = sound-after h (call w e) (goes w ok e .sound)
+-- taken from a list, and then more with others behind it
+module _ {A : Type 0} (n m : ℕ) (xs ys : List A) (enough : n ≤ length xs) where
+  drop-again : drop m (drop n xs ++ ys) ≡ drop (n + m) (xs ++ ys)
+  drop-again = ap (drop m) (sym (drop-append-le n xs ys enough)) ∙ drop-drop m n (xs ++ ys)
 
-holds-after : (h : List Call) (w : World) → Sound (here w) → (i : ℕ) → i < w .receiver .plan .lines → (es : List Entry) → HoldsOn i (here w) es
-    → HoldsOn i (here (calls w h)) (drop (sum (takenBy i) (events w h)) (es ++ each (storedBy i) (events w h)))
-holds-after [] w ok i line es h = rw append-nil h
-holds-after (e ∷ later) w ok i line es h =
-    let n = takenBy i (seen w e) in
-    let x = storedBy i (seen w e) in
-    let m = sum (takenBy i) (events (call w e) later) in
-    let y = each (storedBy i) (events (call w e) later) in
-    let g = goes w ok e in
-    let ih = holds-after later (call w e) (g .sound) i (rw (g .plan) line) (drop n (es ++ x)) (g .holds i line es h) in
-    let is : drop m (drop n (es ++ x) ++ y) ≡ drop (n + m) (es ++ (x ++ y)) =
-    ap (drop m) (sym (drop-append-le n (es ++ x) y (g .enough i line es h))) ∙ drop-drop m n (es ++ x ++ y) ∙ ap (drop (n + m)) (append-assoc es x y) in
-    subst (HoldsOn i (here (calls (call w e) later))) is ih
+  enough-again : m ≤ length (drop n xs ++ ys) → n + m ≤ length (xs ++ ys)
+  enough-again more = simp length-append (omega (arith, enough, simp (length-append, length-drop) at more))
+
+-- what is kept from a stage without items to another, by what is seen on the way
+pub record Kept (s t : Stage) (es : List Event) : Type 0 where
+  pub sound : Sound t
+  pub plan : t .receiver .plan ≡ s .receiver .plan
+  pub size : t .receiver .rings .size ≡ s .receiver .rings .size
+  pub enough : (i : ℕ) → i < s .receiver .plan .lines → sum (takenBy i) es ≤ length (each (storedBy i) es)
+  pub holds : (i : ℕ) → i < s .receiver .plan .lines → HoldsOn i t (drop (sum (takenBy i) es) (each (storedBy i) es))
+
+module _ (w : World) where
+  abbrev KeptBy : List Call → Type 0
+  KeptBy h = Kept (here w) (here (calls w h)) (events w h)
+
+  kept-and : (h : List Call) (e : Call) → KeptBy h → KeptBy (andThen h e)
+  kept-and h e k =
+      let g : Goes (here (calls w h)) (here (call (calls w h) e)) (seen (calls w h) e) = goes (calls w h) (k .sound) e in
+      record {
+        sound = rw (calls-and h e w) (g .sound);
+        plan = rw (calls-and h e w) (g .plan ∙ k .plan);
+        size = rw (calls-and h e w) (g .size ∙ k .size);
+        enough = λ i l.
+            rw (sum-and (takenBy i) h e w, each-and (storedBy i) h e w)
+            (enough-again _ _ _ _ (k .enough i l) (g .enough i (rw (k .plan) l) _ (k .holds i l)));
+        holds = λ i l.
+            rw (sum-and (takenBy i) h e w, each-and (storedBy i) h e w, calls-and h e w)
+            (subst (HoldsOn i (here (call (calls w h) e))) (drop-again _ _ _ _ (k .enough i l)) (g .holds i (rw (k .plan) l) _ (k .holds i l)));
+      }
+
+  kept : Sound (here w) → ((i : ℕ) → i < w .receiver .plan .lines → HoldsOn i (here w) []) → (h : List Call) → KeptBy h
+  kept ok empty = along KeptBy (record { sound = ok; plan = refl; size = refl; enough = λ i l. omega arith; holds = empty }) kept-and
+
+-- ---- from the opening
+
+module _ (p : Plan) (size : ℕ) (sixteen : length (p .quanta) ≡ mostLines) (opens : openReceiver p size .number ≡ 0)
+    (w : World) (is-opened : w .receiver ≡ openReceiver p size .receiver) (long : length (w .store) ≡ p .lines * size) where
+  abbrev first : Stage
+  first = stage (openReceiver p size .receiver) (w .store)
+
+  begins : first ≡ here w
+  begins = ap (λ (r : Receiver). stage r (w .store)) (sym is-opened)
+
+  same-lines : p .lines ≡ w .receiver .plan .lines
+  same-lines = ap (λ (r : Receiver). r .plan .lines) (sym (is-opened ∙ is-open p size opens))
+
+  from-opening : (h : List Call) → Kept (here w) (here (calls w h)) (events w h)
+  from-opening =
+      kept w (subst Sound begins (open-sound p size (w .store) sixteen opens long))
+      (λ i l. subst (λ (s : Stage). HoldsOn i s []) begins (open-empty p size (w .store) sixteen opens long i (rw same-lines l)))
+
+  pub size-kept : (h : List Call) → calls w h .receiver .rings .size ≡ size
+  size-kept h = from-opening h .size ∙ ap (λ (r : Receiver). r .rings .size) (is-opened ∙ is-open p size opens)
+
+  pub queues-kept : (h : List Call) → KeepsQueues p w h
+  queues-kept h =
+      let k = from-opening h in
+      record { valid = k .sound .good; queued = λ i l. read-back _ _ _ _ (k .holds i (rw (← same-lines) l)) }
 
 pub every-history : EveryHistory
-every-history p size sixteen opens w is-opened long h =
-    let start : Stage = stage (openReceiver p size .receiver) (w .store) in
-    let same : start ≡ here w = ap (λ (r : Receiver). stage r (w .store)) (sym is-opened) in
-    let ok : Sound (here w) = subst Sound same (open-sound p size (w .store) sixteen opens long) in
-    record {
-      valid = sound-after h w ok .good;
-      queued = λ i line.
-          let on : i < w .receiver .plan .lines = rw (is-opened, is-open p size opens) line in
-          let none : HoldsOn i (here w) [] = subst (λ (s : Stage). HoldsOn i s []) same (open-empty p size (w .store) sixteen opens long i line) in
-          read-back _ _ _ _ (holds-after h w ok i on [] none);
-    }
+every-history p size sixteen opens w is-opened long h = queues-kept p size sixteen opens w is-opened long h

@@ -10,7 +10,7 @@ use Rattle.numbers.specs.declared.Written.{Written}
 use Rattle.numbers.specs.declared.Written.the-variants as written
 use Rattle.plan.specs.declared.Plan.{Plan}
 use Rattle.theory.specs.Sending.{choose}
-use Rattle.theory.specs.System.{Item, Line, State, positions, put, dropped, loseOf, at, run}
+use Rattle.theory.specs.System.{Item, Line, State, positions, put, dropped, loseOf, atLine, run}
 use Rattle.theory.specs.System as T
 use Rattle.theory.proofs.Lines.{dropped-position, dropped-store}
 use Rattle.theory.proofs.Histories.{at-field, at-all}
@@ -37,7 +37,7 @@ module _ (p : Plan) where
   -- one line's road changes
   roads-change : (road : ℕ → List Parcel) (lines : ℕ → Line) → Roads road lines → (i : ℕ) (f : Line → Line) (parcels : List Parcel)
       → parcels ≡ map (parcelOf p i) (f (lines i) .road) → AllFit p (f (lines i) .road) → (p .lines ≤ i → f (lines i) .road ≡ [])
-      → Roads (withRoad i parcels road) (at i f lines)
+      → Roads (withRoad i parcels road) (atLine i f lines)
   roads-change road lines r i f parcels is fits none = record {
     same = at-all (λ j l. withRoad i parcels road j ≡ map (parcelOf p j) (l .road)) i f lines
         (rw (eq-eqb i i refl) is) (λ j apart. rw (ne-eqb i j apart) (r .same j));
@@ -56,14 +56,14 @@ module _ (p : Plan) (w : World) (s : State) (m : Meets p w s) where
 
   -- what leaves positions and queues as they are changes nothing at the far end
   still : (i : ℕ) (f : Line → Line) → ((l : Line) → f l .position ≡ l .position) → ((l : Line) → f l .store ≡ l .store)
-      → Shows p (stage (w .receiver) (w .store)) (λ j. at i f (s .line) j .position) (λ j. at i f (s .line) j .store)
+      → Shows p (stage (w .receiver) (w .store)) (λ j. atLine i f (s .line) j .position) (λ j. atLine i f (s .line) j .store)
   still i f place queue =
       let positions = fun-ext (at-field (λ l. l .position) i f (s .line) place) in
       let stores = fun-ext (at-field (λ l. l .store) i f (s .line) queue) in
       rw (positions, stores) (m .far)
 
   -- an item joins line i's road
-  joined : (i : ℕ) (x : Item) → i < p .lines → Fits p x → Roads p (joins i (parcelOf p i x) (w .road)) (at i (put x) (s .line))
+  joined : (i : ℕ) (x : Item) → i < p .lines → Fits p x → Roads p (joins i (parcelOf p i x) (w .road)) (atLine i (put x) (s .line))
   joined i x line fits =
       roads-change p (w .road) (s .line) on-roads i (put x) _
       (ap (λ (r : List Parcel). r ++ (parcelOf p i x ∷ [])) (m .roads i) ∙ sym (map-append (parcelOf p i) (s .line i .road) (x ∷ [])))
@@ -109,7 +109,7 @@ module _ (p : Plan) (w : World) (s : State) (m : Meets p w s) where
 
   -- line i's oldest item leaves its road
   pub left-road : (i : ℕ) (f : Line → Line) (x : Item) (rest : List Item) → s .line i .road ≡ x ∷ rest → f (s .line i) .road ≡ rest
-      → Roads p (leaves i (w .road)) (at i f (s .line))
+      → Roads p (leaves i (w .road)) (atLine i f (s .line))
   left-road i f x rest e is =
       let all : AllFit p (x ∷ rest) = rw e at (m .on-road i) in
       let others : drop 1 (w .road i) ≡ map (parcelOf p i) rest = ap (drop 1) (m .roads i ∙ ap (map (parcelOf p i)) e) in
@@ -117,7 +117,7 @@ module _ (p : Plan) (w : World) (s : State) (m : Meets p w s) where
       (λ off. absurd (cons≢nil (sym e ∙ m .off-road i off)))
 
   -- and is lost
-  pub lose-line : (i : ℕ) (x : Item) (rest : List Item) → s .line i .road ≡ x ∷ rest → Roads p (leaves i (w .road)) (at i dropped (s .line))
+  pub lose-line : (i : ℕ) (x : Item) (rest : List Item) → s .line i .road ≡ x ∷ rest → Roads p (leaves i (w .road)) (atLine i dropped (s .line))
   lose-line i x rest e = left-road i dropped x rest e (ap (λ (road : List Item). loseOf road (s .line i) .road) e)
 
   pub lose-meets : (i : ℕ) → Meets p (call w (loses i)) (run (theirs p) s (stepsOf (seen w (loses i))))

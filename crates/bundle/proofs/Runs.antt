@@ -1,7 +1,7 @@
 -- Along every history the world shows the state that its log leads to, and has handed out and reported what that has. Assumes nothing.
 use Prim.Native.Nat.{ℕ, _+_, _≤_}
 use native.Mathlib.Omega.{arith}
-use mathlib.Core.List.{List, [], _∷_, _++_, append-nil, append-assoc}
+use mathlib.Core.List.{List, [], _∷_, _++_, append-nil}
 use mathlib.Core.Path.{_≡_, refl, sym, ap, _∙_, subst}
 use lib.ListN.{length}
 use Rattle.plan.specs.declared.Plan.{Plan}
@@ -28,7 +28,7 @@ use Rattle.bundle.specs.Words.{andThen, Opens}
 use Rattle.bundle.specs.Demands.{theirs, opened, after, logOf, system, sentOf, carried, Near}
 use Rattle.bundle.proofs.Meeting.{Meets}
 use Rattle.bundle.proofs.Currents.{Within}
-use Rattle.bundle.proofs.Histories.{calls-append, log-append, handed-append, reported-append, log-packets, ask-cases, arrive-cases, lose-cases}
+use Rattle.bundle.proofs.Histories.{along, calls-append, log-append, handed-append, reported-append, log-packets, ask-cases, arrive-cases, lose-cases}
 use Rattle.bundle.proofs.Senders.{kept-good, sent-fit, goes, marks}
 use Rattle.bundle.proofs.Opening.{open-meets}
 use Rattle.bundle.proofs.Roads.{send-meets, ask-meets, lose-meets}
@@ -222,15 +222,5 @@ module _ (p : Plan) (size : ℕ) (store : List ℕ) (o : Opens p size store) whe
   open-reaches : Reaches []
   open-reaches = record { meets = open-meets p size store o; hands = refl; reports = λ i. refl }
 
-  -- the rest of a history, behind what is done
-  reaches-on : (g h : List Call) → Reaches h → Near p size store (h ++ g) → Reaches (h ++ g)
-  reaches-on [] h r near = rw append-nil r
-  reaches-on (e ∷ g) h r near =
-      let same : andThen h e ++ g ≡ h ++ (e ∷ g) = append-assoc h (e ∷ []) g in
-      let near' : Near p size store (andThen h e ++ g) = rw same near in
-      let first = near-split plan (logOf p size store (andThen h e)) (log (world (andThen h e)) g) T.atOpening
-      (subst (F.Near plan T.atOpening) (log-append (andThen h e) g (opened p size store)) near') in
-      rw (← same) (reaches-on g (andThen h e) (reaches-and h e r (first .0)) near')
-
   pub reaches : (h : List Call) → Near p size store h → Reaches h
-  reaches h near = reaches-on h [] open-reaches near
+  reaches = along (λ h. Near p size store h → Reaches h) (λ near. open-reaches) (λ h e now near. reaches-and h e (now (near-and h e near .0)) near)

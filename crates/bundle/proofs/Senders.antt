@@ -3,13 +3,13 @@ use Prim.Native.Nat.{ℕ, _≤_, _<_}
 use native.Mathlib.Decide.{decLt}
 use native.Mathlib.Omega.{arith}
 use mathlib.Core.Bool.{Bool, true, false, cond}
-use mathlib.Core.List.{List, [], _∷_, _++_, append-nil}
-use mathlib.Core.Path.{_≡_, refl, sym, ap, _∙_, subst}
+use mathlib.Core.List.{List, [], _∷_, _++_}
+use mathlib.Core.Path.{_≡_, refl, sym, ap, _∙_}
 use lib.ListN.{length, take}
 use lib.Seq.{sets}
 use Rattle.numbers.specs.declared.Written.{Written}
 use Rattle.numbers.specs.declared.Written.the-variants as written
-use Rattle.numbers.specs.Writing.{numberOf, lengthOf, room, Outcome, written as writes}
+use Rattle.numbers.specs.Writing.{writtenNumber, lengthOf, room, Outcome, written as writes}
 use Rattle.numbers.proofs.Checks.{in-range, from-range}
 use Rattle.numbers.proofs.Laws.{accepted, written-fits}
 use Rattle.plan.specs.declared.Plan.{Plan}
@@ -27,10 +27,10 @@ use Rattle.sending.specs.Sender.{closedSender, openedSender, openSender, sendOf
 use Rattle.sending.specs.InTheory.{isPacket}
 use Rattle.sending.proofs.Laws.{as-asked, line-not-asked}
 use Rattle.sending.proofs.InTheory.{On}
-use Rattle.bundle.specs.Worlds.{Call, sends, calls}
+use Rattle.bundle.specs.Worlds.{Call, sends}
 use Rattle.bundle.specs.Log.{markOf}
 use Rattle.bundle.specs.Words.{andThen, Opens}
-use Rattle.bundle.specs.Booth.{andPacket, endedBy, carriedBy, Keeps}
+use Rattle.bundle.specs.Booth.{andPacket, Keeps}
 use Rattle.bundle.specs.Demands.{Rule, Share, theirs, after, opened, sentOf, carried}
 use Rattle.bundle.proofs.Histories.{sent-append}
 use Rattle.bundle.proofs.Booth as booth
@@ -50,7 +50,7 @@ written-not-refused a b = let z : _≡_ {A = ℕ} 0 1 = cc in omega arith
 -- what is answered as written stands at the output's front
 written-front : (bytes out : List ℕ) (n : ℕ) → writes bytes out .answer ≡ written.Length n → take n (writes bytes out .out) ≡ bytes
 written-front bytes out n e =
-    ap (λ (k : ℕ). take k (writes bytes out .out)) (sym (ap lengthOf e)) ∙ accepted (room bytes out) bytes out (ap numberOf e) .1
+    ap (λ (k : ℕ). take k (writes bytes out .out)) (sym (ap lengthOf e)) ∙ accepted (room bytes out) bytes out (ap writtenNumber e) .1
 
 module _ (p : Plan) (size : ℕ) (store : List ℕ) (o : Opens p size store) where
   abbrev kept : Plan

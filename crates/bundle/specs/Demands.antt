@@ -22,7 +22,7 @@ use Rattle.receiving.specs.Receiver.{heldOf, receiverOk}
 use Rattle.receiving.specs.Taking.{takeOf}
 use Rattle.bundle.specs.Events.{Parcel}
 use Rattle.bundle.specs.Worlds.{World, Call, sends, takes, start, landing, calls, sentIn, handedIn, reportedIn}
-use Rattle.bundle.specs.Words.{andThen, Names, Roomy, queue, heldBelow, NoPacket, bytesOf}
+use Rattle.bundle.specs.Words.{andThen, Names, Roomy, queueAt, heldBelow, NoPacket, bytesOf}
 use Rattle.bundle.specs.Log.{log, parcelOf, entryOf}
 use Rattle.bundle.specs.Booth.{carriedBy, endedBy}
 
@@ -73,7 +73,7 @@ module _ (p : Plan) (size : ℕ) (store : List ℕ) where
     pub sent : sentOf h ≡ T.packets (logOf h)
     pub handed : handedIn opened h ≡ F.handedBytes (T.outs theirs T.atOpening (logOf h))
     pub road : (i : ℕ) → after h .road i ≡ map (parcelOf kept i) (system h .line i .road)
-    pub queued : (i : ℕ) → i < p .lines → queue (after h) i ≡ map (entryOf kept i) (system h .line i .store)
+    pub queued : (i : ℕ) → i < p .lines → queueAt (after h) i ≡ map (entryOf kept i) (system h .line i .store)
 
   abbrev pub LogShown : Type 0
   LogShown = (h : List Call) → Near h → Shown h
@@ -142,7 +142,7 @@ module _ (p : Plan) (size : ℕ) (store : List ℕ) where
   Cleared =
       (h : List Call) → ((i : ℕ) → i < p .lines → HasMarker (system h .sent) (system h .line i .store))
       → (outs : List (List ℕ)) → length outs ≡ heldBelow (after h) (p .lines) → Roomy (after h) outs → Near (h ++ map takes outs)
-      → (i : ℕ) → i < p .lines → NoPacket (queue (after (h ++ map takes outs)) i)
+      → (i : ℕ) → i < p .lines → NoPacket (queueAt (after (h ++ map takes outs)) i)
 
   -- ---- demand 1, from the opening on
 

@@ -40,12 +40,12 @@ Roomy w [] = Unit {0}
 Roomy w (out ∷ outs) = (takeOf (w .receiver) (w .store) out .result .answer ≡ taken.Refused 8 → ⊥) × Roomy (call w (takes out)) outs
 
 -- line i's queue, and the items held on the lines below n
-abbrev pub queue : World → ℕ → List Entry
-queue w i = queueOn i (stage (w .receiver) (w .store))
+abbrev pub queueAt : World → ℕ → List Entry
+queueAt w i = queueOn i (stage (w .receiver) (w .store))
 
 abbrev pub heldBelow : World → ℕ → ℕ
 heldBelow w zero = 0
-heldBelow w (suc n) = heldBelow w n + length (queue w n)
+heldBelow w (suc n) = heldBelow w n + length (queueAt w n)
 
 abbrev pub NoPacket : List Entry → Type 0
 NoPacket [] = Unit {0}

@@ -9,9 +9,9 @@ use Rattle.numbers.specs.Checks.{check}
 use Rattle.numbers.specs.Coding.{Bytes}
 use Rattle.numbers.specs.Writing.{room, written, outcome}
 use Rattle.plan.specs.Plan.{noPlan, planOk}
-use Rattle.plan.specs.Record.{readPlan, refusedPlan, planRead, planWritten}
-use Rattle.plan.proofs.Laws.{as-written}
-use Rattle.plan.proofs.Promises.{read-or-refused, read-is-written}
+use Rattle.plan_record.specs.Record.{readPlan, refusedPlan, planRead, planWritten}
+use Rattle.plan_record.proofs.Laws.{as-written}
+use Rattle.plan_record.proofs.Promises.{read-or-refused, read-is-written}
 use Rattle.driver.specs.Exports.{copied}
 
 -- no writer takes the all-zero plan

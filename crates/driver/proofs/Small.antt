@@ -14,9 +14,9 @@ use Rattle.numbers.specs.Writing.{written, outcome}
 use Rattle.numbers.proofs.Laws.{coded-short, row-short, answered-length, answered-number}
 use Rattle.plan.specs.declared.Plan.{Plan}
 use Rattle.plan.specs.Plan.{planOk}
-use Rattle.plan.specs.Record.{planBytes, planWritten}
-use Rattle.plan.proofs.Laws.{not-written, as-written}
-use Rattle.plan.proofs.Promises.{fifty-four-bytes}
+use Rattle.plan_record.specs.Record.{planBytes, planWritten}
+use Rattle.plan_record.proofs.Laws.{not-written, as-written}
+use Rattle.plan_record.proofs.Promises.{fifty-four-bytes}
 use Rattle.marker.specs.declared.Marker.{Marker}
 use Rattle.marker.specs.Marker.{markerOf, markerBytes, counterOk, lineOk, markerWritten}
 use Rattle.plan.specs.Plan.{at}

@@ -8,7 +8,7 @@ use Rattle.numbers.specs.declared.Reading.the-variants.{Number, Nothing}
 use Rattle.numbers.specs.declared.Written.{Written}
 use Rattle.numbers.specs.declared.Written.the-variants as w
 use Rattle.numbers.specs.Writing.{Outcome}
-use Rattle.plan.specs.Record.{planRead, planWritten}
+use Rattle.plan_record.specs.Record.{planRead, planWritten}
 use Rattle.marker.specs.declared.MarkerRead.{MarkerRead}
 use Rattle.marker.specs.declared.MarkerRead.the-variants as m
 use Rattle.marker.specs.Marker.{markerOf}

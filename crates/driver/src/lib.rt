@@ -12,7 +12,7 @@ ghost use mathlib.Core.Path.{_≡_};
 ghost use Prim.Native.Nat.{_<_, _^_};
 ghost use Rattle.numbers.specs.Coding.{readingOf, coded};
 ghost use Rattle.numbers.specs.Writing.{written};
-ghost use Rattle.plan.specs.Record.{planRead};
+ghost use Rattle.plan_record.specs.Record.{planRead};
 ghost use Rattle.marker.specs.Marker.{markerOf, markerRead, markerWritten};
 ghost use Rattle.sending.specs.Sender.{sendOf, markerFrom};
 ghost use Rattle.driver.specs.Exports.{exported, exportedReading, exportedMarker, copied, exportedSent, codedSend, openFrom};
@@ -81,7 +81,7 @@ pub extern "C" fn stripes_read_marker(s: &[u8]) -> u64
 pub extern "C" fn stripes_check_plan(s: &[u8]) -> u32
     ensures { λ r. ⌜ r ≡ planRead (now (s .entry)) .number ⌝ }
 {
-    let read = plan::read_plan(s);
+    let read = plan_record::read_plan(s);
     read.number
 }
 
@@ -92,9 +92,9 @@ pub extern "C" fn stripes_copy_plan(s: &[u8], out: &mut [u8]) -> u32
     ensures { λ r. ⌜ (r ≡ exported (copied (now (s .entry)) (now (out .entry)) .answer))
         × (now (out .exit) ≡ copied (now (s .entry)) (now (out .entry)) .out) ⌝ }
 {
-    let read = plan::read_plan(s);
+    let read = plan_record::read_plan(s);
     let p = read.plan;
-    code_of(plan::write_plan(p, out))
+    code_of(plan_record::write_plan(p, out))
 }
 
 // A send's answer as C gets it, and the next state.
@@ -141,7 +141,7 @@ pub extern "C" fn stripes_send(s: &mut Sender, length: usize) -> u32
 fn open_from(bytes: &[u8]) -> SenderOpened
     ensures { λ r. ⌜ r ≡ openFrom (now (bytes .entry)) ⌝ }
 {
-    let read = plan::read_plan(bytes);
+    let read = plan_record::read_plan(bytes);
     let p = read.plan;
     sender::open(p)
 }

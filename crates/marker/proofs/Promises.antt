@@ -8,7 +8,7 @@ use borrow.Author.Tests.{ltb-true}
 use lib.ListN.{length, take, length-append}
 use Rattle.numbers.specs.Coding.{Bytes, coded, rowBytes}
 use Rattle.numbers.specs.Checks.{check}
-use Rattle.numbers.specs.Writing.{numberOf as writtenNumber, lengthOf, room}
+use Rattle.numbers.specs.Writing.{writtenNumber, lengthOf, room}
 use Rattle.numbers.proofs.Checks.{check-passed, from-range}
 use Rattle.numbers.proofs.Laws.{coded-size, coded-size-of, accepted}
 use Rattle.plan.specs.Limits.{mostLines, mostQuantum}

@@ -17,7 +17,7 @@ use Rattle.numbers.specs.declared.Reading.{Reading}
 use Rattle.numbers.specs.declared.Reading.the-variants.{Number, Nothing}
 use Rattle.numbers.specs.declared.Written.the-variants.{Length, Refused}
 use Rattle.numbers.specs.Coding.{Bytes, joined, readingOf, onward, coded, rowBytes}
-use Rattle.numbers.specs.Writing.{numberOf, lengthOf, Outcome, written, outcome}
+use Rattle.numbers.specs.Writing.{writtenNumber, lengthOf, Outcome, written, outcome}
 
 -- a reading is not both a number and nothing
 pub never : {r : Reading} {v at : ℕ} → r ≡ Nothing → r ≡ Number v at → ⊥
@@ -314,12 +314,12 @@ module _ (number : ℕ) (bytes out : List ℕ) where
       go false e = cc
 
   -- the front of the output, as long as was answered, is what was to be written
-  pub accepted : numberOf (outcome number bytes out .answer) ≡ 0
+  pub accepted : writtenNumber (outcome number bytes out .answer) ≡ 0
       → (number ≡ 0) × (take (lengthOf (outcome number bytes out .answer)) (outcome number bytes out .out) ≡ bytes)
   unfolding outcome
   accepted e = go (eqb number 0) refl e
     where
-      go : (t : Bool) → eqb number 0 ≡ t → numberOf (settled t .answer) ≡ 0
+      go : (t : Bool) → eqb number 0 ≡ t → writtenNumber (settled t .answer) ≡ 0
           → (number ≡ 0) × (take (lengthOf (settled (eqb number 0) .answer)) (settled (eqb number 0) .out) ≡ bytes)
       go true h e = (eqb-true number 0 h, rw h (take-append-seam bytes (drop (length bytes) out)))
       go false h e = absurd (eqb-false number 0 h e)

@@ -10,9 +10,9 @@ use Rattle.numbers.specs.declared.Written.the-variants.{Length, Refused}
 use Rattle.numbers.specs.Checks.{check}
 
 -- the table's number that an answer gives, 0 for none; and the length that it tells
-abbrev pub numberOf : Written → ℕ
-numberOf (Length n) = 0
-numberOf (Refused k) = k
+abbrev pub writtenNumber : Written → ℕ
+writtenNumber (Length n) = 0
+writtenNumber (Refused k) = k
 
 abbrev pub lengthOf : Written → ℕ
 lengthOf (Length n) = n

@@ -93,7 +93,7 @@ module _ (h₁ h₂ : List Call) (c : ℕ → ℕ) (handed : List (List ℕ)) (p
 
 -- of `Cleared`; and after the takes these kinds of item are queued on the two lines
 abbrev kinds : World → List (List ℕ)
-kinds w = map (λ (e : Entry). e .kind) (words.queue w 0) ∷ map (λ (e : Entry). e .kind) (words.queue w 1) ∷ []
+kinds w = map (λ (e : Entry). e .kind) (words.queueAt w 0) ∷ map (λ (e : Entry). e .kind) (words.queueAt w 1) ∷ []
 
 abbrev Clears : List Call → List (List ℕ) → List (List ℕ) → Type 0
 Clears h outs queued =
@@ -128,7 +128,7 @@ pub nothing-lost :
     Near (calm ++ someTakes 6) × D.NothingLost session size bytes calm × D.NothingUnderWay session size bytes calm × Enough 2 (after calm) (replicate 6 room)
     × (handedIn opened (calm ++ someTakes 6)
     ≡ numbered 1 400 ∷ numbered 2 500 ∷ numbered 3 300 ∷ numbered 4 450 ∷ numbered 5 200 ∷ numbered 6 500 ∷ numbered 7 500 ∷ numbered 8 100 ∷ [])
-unfolding allBelow readingOf coded rowBytes outcome planOk storeOk chargeOf recordRead better best choose charged T.at
+unfolding allBelow readingOf coded rowBytes outcome planOk storeOk chargeOf recordRead better best choose charged T.atLine
     markerOn judge ahead reportOf senderOk countersOk openSender nextSender sendNumber sendOf markerFrom fromRing intoRing held stored frontOf
     firstFrom lineAt receiverOk ringsOk turnsOk openReceiver ringOf withRing arrival arrivalOf headOn itemOn roundNow takeOf itemsIn queue
 nothing-lost =
@@ -143,7 +143,7 @@ nothing-lost =
 -- Packet 2 is lost. The third take, behind the arrival of packet 6, finds line 0's marker; when both lines have yielded their markers,
 -- packet 8 is to come.
 pub packet-lost : Near (lossy ++ someTakes 5) × Finds (take 18 lossy) × Orders (lossy ++ someTakes 4) (someTakes 1) bothMarked (numbered 8 100 ∷ [])
-unfolding allBelow readingOf coded rowBytes outcome planOk storeOk chargeOf recordRead better best choose charged T.at markerOn
+unfolding allBelow readingOf coded rowBytes outcome planOk storeOk chargeOf recordRead better best choose charged T.atLine markerOn
     judge ahead reportOf senderOk countersOk openSender nextSender sendNumber sendOf markerFrom fromRing intoRing held stored frontOf firstFrom
     lineAt receiverOk ringsOk turnsOk openReceiver ringOf withRing arrival arrivalOf headOn itemOn roundNow takeOf S.carried
 packet-lost =
@@ -158,7 +158,7 @@ pub marker-lost :
     Near (lossier ++ someTakes 4) × Finds (take 18 lossier)
     × Orders (take 19 lossier) (drop 19 lossier ++ someTakes 4) firstMarked
     (numbered 4 450 ∷ numbered 5 200 ∷ numbered 6 500 ∷ numbered 7 500 ∷ numbered 8 100 ∷ [])
-unfolding allBelow readingOf coded rowBytes outcome planOk storeOk chargeOf recordRead better best choose charged T.at
+unfolding allBelow readingOf coded rowBytes outcome planOk storeOk chargeOf recordRead better best choose charged T.atLine
     markerOn judge ahead reportOf senderOk countersOk openSender nextSender sendNumber sendOf markerFrom fromRing intoRing held stored frontOf
     firstFrom lineAt receiverOk ringsOk turnsOk openReceiver ringOf withRing arrival arrivalOf headOn itemOn roundNow takeOf S.carried
 marker-lost =
@@ -172,7 +172,7 @@ marker-lost =
 -- Markers are sent after the last packet: as many takes as items held leave no packet, only line 0's last marker.
 pub all-marked :
     Clears (lossy ++ closing) (replicate 7 room) ((1 ∷ []) ∷ [] ∷ []) × Clears (lossier ++ closing) (replicate 6 room) ((1 ∷ []) ∷ [] ∷ [])
-unfolding allBelow readingOf coded rowBytes outcome planOk storeOk chargeOf recordRead better best choose charged T.at markerOn
+unfolding allBelow readingOf coded rowBytes outcome planOk storeOk chargeOf recordRead better best choose charged T.atLine markerOn
     judge ahead reportOf senderOk countersOk openSender nextSender sendNumber sendOf markerFrom fromRing intoRing held stored frontOf firstFrom
     lineAt receiverOk ringsOk turnsOk openReceiver ringOf withRing arrival arrivalOf headOn itemOn roundNow takeOf itemsIn queue
 all-marked = (

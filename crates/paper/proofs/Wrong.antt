@@ -38,7 +38,7 @@ use Rattle.receiving.specs.Receiver as receiver
 use Rattle.receiving.specs.Arriving.{notStored, arrival, arrivalOf}
 use Rattle.receiving.specs.Taking.{headOn, itemOn, roundNow, takeOf}
 use Rattle.bundle.specs.Worlds.{World, Call, sends, handedIn, reportedIn}
-use Rattle.bundle.specs.Words.{andThen, Names, queue, NoPacket}
+use Rattle.bundle.specs.Words.{andThen, Names, queueAt, NoPacket}
 use Rattle.bundle.specs.Log.{parcelOf, entryOf}
 use Rattle.bundle.specs.Demands as D
 use Rattle.paper.specs.Session.{session, numbered, room, size, bytes, opened, calm, lossy, closing}
@@ -178,7 +178,7 @@ pub record Wrong : Type 0 where
   pub order-swapped : OrderOf (numbered 5 200 ∷ numbered 4 450 ∷ []) → ⊥
   pub order-gap : OrderOf (numbered 4 450 ∷ numbered 6 500 ∷ []) → ⊥
   -- `Cleared`: takes that wait, and leave all that is queued
-  pub cleared-waits : NoPacket (queue (after (lossy ++ closing)) 0) → ⊥
+  pub cleared-waits : NoPacket (queueAt (after (lossy ++ closing)) 0) → ⊥
   -- `Valid`: ends that are closed
   pub valid-sender : senderOk sender.closedSender ≡ true → ⊥
   pub valid-receiver : receiverOk receiver.closedReceiver ≡ true → ⊥
@@ -205,7 +205,7 @@ not-reported m is-five test r =
 
 pub wrong : Wrong
 unfolding allBelow readingOf coded rowBytes outcome planOk storeOk chargeOf recordRead better best choose charged S.carried ends ended
-    dueAfter T.at markerOn judge ahead reportOf senderOk countersOk openSender nextSender sendNumber sendOf markerFrom fromRing intoRing held stored
+    dueAfter T.atLine markerOn judge ahead reportOf senderOk countersOk openSender nextSender sendNumber sendOf markerFrom fromRing intoRing held stored
     frontOf itemsIn ring.queue firstFrom lineAt receiverOk ringsOk turnsOk openReceiver ringOf withRing arrival arrivalOf headOn itemOn
     roundNow takeOf
 wrong =
@@ -238,7 +238,7 @@ wrong =
       cleared-waits = λ c. c .0 refl;
       valid-sender = λ e. never (sym e);
       valid-receiver = λ e. never (sym e);
-      ask-refused = λ n e. differ 8 0 refl (ap writing.numberOf e);
+      ask-refused = λ n e. differ 8 0 refl (ap writing.writtenNumber e);
       ask-short = λ e. differ _ _ refl (ap writing.lengthOf e);
       land-refused = differ 7 0 refl;
       take-refused = λ none. none 8 refl;

@@ -1,5 +1,5 @@
 -- Tightness of this crate's public functions. Assumes nothing.
-use Rattle.numbers.proofs.Tight.{only, OneAnswer, OneOutcome}
+use Rattle.numbers.proofs.Tight.{only, OneAnswer}
 use Rattle.plan.proofs.plan_ok.Reads as plan-ok
 use Rattle.plan.proofs.plan_ok.Kinds as plan-ok-kinds
 use Rattle.plan.proofs.store_ok.Reads as store-ok
@@ -18,10 +18,6 @@ use Rattle.plan.proofs.first_entries.Reads as first-entries
 use Rattle.plan.proofs.first_entries.Kinds as first-entries-kinds
 use Rattle.plan.proofs.trim.Reads as trim
 use Rattle.plan.proofs.trim.Kinds as trim-kinds
-use Rattle.plan.proofs.read_plan.Reads as read-plan
-use Rattle.plan.proofs.read_plan.Kinds as read-plan-kinds
-use Rattle.plan.proofs.write_plan.Reads as write-plan
-use Rattle.plan.proofs.write_plan.Kinds as write-plan-kinds
 
 pub plan-ok-tight : OneAnswer 0 plan-ok-kinds.ps plan-ok-kinds.r plan-ok.Post
 plan-ok-tight κs a z z′ e e′ p q = only p q
@@ -49,9 +45,3 @@ first-entries-tight κs a z z′ e e′ p q = only p q
 
 pub trim-tight : OneAnswer 0 trim-kinds.ps trim-kinds.r trim.Post
 trim-tight κs a z z′ e e′ p q = only p q
-
-pub read-plan-tight : OneAnswer 1 read-plan-kinds.ps read-plan-kinds.r read-plan.Post
-read-plan-tight κs a z z′ e e′ p q = only p q
-
-pub write-plan-tight : OneOutcome 1 write-plan-kinds.ps write-plan-kinds.r write-plan.Post (λ κs e. e .1 .0 .now)
-write-plan-tight κs a z z′ e e′ p q = (only (p .0) (q .0), only (p .1) (q .1))

@@ -1,4 +1,3 @@
 pub mod Laws
-mod Records
 pub mod Promises
 mod Determined

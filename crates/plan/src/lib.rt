@@ -1,15 +1,10 @@
-// The plan that both ends agree on: its limits, the check of it, its record, and what a packet is charged on a line.
-// The definitions are in specs/: Limits, Plan and Record.
-use numbers::Reading;
-use numbers::Written;
+// The plan that both ends agree on: its limits, the check of it, and what a packet is charged on a line.
+// The definitions are in specs/: Limits and Plan.
 ghost use mathlib.Core.Path.{_≡_};
 ghost use Prim.Native.Nat.{_≤_};
-ghost use mathlib.Core.List.{_∷_};
 ghost use Rattle.numbers.specs.Checks.{allBelow};
-ghost use Rattle.numbers.specs.Coding.{readingOf};
 ghost use Rattle.plan.specs.Limits.{leastLines, mostLines, leastMax, mostMax, mostQuantum, leastInterval, mostInterval, itemHead, mostStore};
 ghost use Rattle.plan.specs.Plan.{at, noPlan, quantumOk, planOk, storeOk, countersOk, linePlan, chargeOf, firstEntries, trimmed};
-ghost use Rattle.plan.specs.Record.{within, refusedPlan, quantaRead, planRead, planWritten};
 
 // Lines are numbered from 0 in the order of the quanta, never by name. Entries for lines from `lines` on are ignored and kept.
 #[repr(C)]
@@ -24,12 +19,6 @@ pub struct Plan {
 pub struct LinePlan {
     pub quantum: u32,
     pub largest: u32,
-}
-
-// What reading a plan record answers: 0 and the plan, or the number of the refusal and an all-zero plan.
-pub struct PlanRead {
-    pub number: u32,
-    pub plan: Plan,
 }
 
 impl Plan {
@@ -55,9 +44,6 @@ impl Plan {
 
     pub const MOST_STORE: u32 = 65_536;
 }
-
-// The numbers of a plan's record: three, and a quantum for each line.
-const ROW: usize = Plan::MOST_LINES + 3;
 
 // The plan's limits are the definitions' numbers.
 fn limits()
@@ -201,106 +187,4 @@ pub fn trim(p: Plan) -> Plan
         interval: p.interval,
         quanta: kept,
     }
-}
-
-fn refused() -> PlanRead
-    ensures { λ r. ⌜ r ≡ refusedPlan ⌝ }
-{
-    let plan = no_plan();
-    PlanRead { number: 1, plan }
-}
-
-// Reads a number from low to high; another one is nothing.
-fn read_within(s: &[u8], low: u32, high: u32) -> Reading
-    ensures { λ r. ⌜ r ≡ within low high (readingOf 32 (now (s .entry))) ⌝ }
-{
-    let Reading::Number(v, n) = numbers::read_number(s) else {
-        return Reading::Nothing;
-    };
-    if numbers::in_range(low, v, high) {
-        return Reading::Number(v, n);
-    }
-    Reading::Nothing
-}
-
-// Reads the quanta of p's lines, which are all of s.
-fn read_quanta(s: &[u8], p: Plan) -> PlanRead
-    requires { ⌜ p .lines ≤ mostLines ⌝ }
-    ensures { λ r. ⌜ r ≡ quantaRead (p .lines) 0 p (now (s .entry)) ⌝ }
-{
-    let mut plan = p;
-    let n = p.lines as usize;
-    let mut at: usize = 0;
-    let mut i: usize = 0;
-    while i < n {
-        let Reading::Number(quantum, length) = read_within(&s[at..], p.max, Plan::MOST_QUANTUM)
-        else {
-            return refused();
-        };
-        plan.quanta[i] = quantum;
-        at += length;
-        i += 1;
-    }
-    if at < s.len() {
-        return refused();
-    }
-    PlanRead { number: 0, plan }
-}
-
-// Reads the plan record that s is. Refused: 1.
-pub fn read_plan(s: &[u8]) -> PlanRead
-    ensures { λ r. ⌜ r ≡ planRead (now (s .entry)) ⌝ }
-{
-    let Reading::Number(lines, a) = read_within(s, Plan::LEAST_LINES, Plan::MOST_LINES as u32)
-    else {
-        return refused();
-    };
-    let after_lines = &s[a..];
-    let Reading::Number(max, b) = read_within(after_lines, Plan::LEAST_MAX, Plan::MOST_MAX) else {
-        return refused();
-    };
-    let after_max = &after_lines[b..];
-    let Reading::Number(interval, c) = read_within(
-        after_max,
-        Plan::LEAST_INTERVAL,
-        Plan::MOST_INTERVAL,
-    ) else {
-        return refused();
-    };
-    let p = Plan {
-        lines,
-        max,
-        interval,
-        quanta: [0; Plan::MOST_LINES],
-    };
-    read_quanta(&after_max[c..], p)
-}
-
-// All of a plan's numbers in the record's order, the entries from `lines` on among them.
-fn whole_row(lines: u32, max: u32, interval: u32, quanta: [u32; Plan::MOST_LINES]) -> [u32; ROW]
-    ensures { λ r. ⌜ r ≡ lines ∷ max ∷ interval ∷ quanta ⌝ }
-{
-    let mut row = [0u32; ROW];
-    row[0] = lines;
-    row[1] = max;
-    row[2] = interval;
-    let mut i: usize = 0;
-    while i < Plan::MOST_LINES {
-        row[i + 3] = quanta[i];
-        i += 1;
-    }
-    row
-}
-
-// Writes p's record to the front of out. Refused: 1, 8.
-pub fn write_plan(p: Plan, out: &mut [u8]) -> Written
-    ensures { λ r. ⌜ (r ≡ planWritten p (now (out .entry)) .answer) × (now (out .exit) ≡ planWritten p (now (out .entry)) .out) ⌝ }
-{
-    if !plan_ok(p) {
-        return Written::Refused(1);
-    }
-    let quanta = p.quanta;
-    let row = whole_row(p.lines, p.max, p.interval, quanta);
-    let n = p.lines as usize + 3;
-    numbers::write_row(&row[..n], out)
 }

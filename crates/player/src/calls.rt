@@ -44,7 +44,7 @@ fn open(p: Plan, size: u32, lent: u32) -> Ends {
 }
 
 pub(crate) fn open_record(record: &[u8], size: u32, lent: u32) -> Ends {
-    let read = plan::read_plan(record);
+    let read = plan_record::read_plan(record);
     let p = read.plan;
     text::say_answer(b" plan    ", read.number as u64, 0);
     open(p, size, lent)
@@ -66,7 +66,7 @@ fn write(s: Sender, st: Step, out: &mut [u8]) {
         return;
     }
     let p = s.plan;
-    text::say_written(plan::write_plan(p, &mut out[0..n]));
+    text::say_written(plan_record::write_plan(p, &mut out[0..n]));
     text::say_digest(digest::bytes(out));
 }
 

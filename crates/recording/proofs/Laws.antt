@@ -1,7 +1,7 @@
 -- The laws of what stands at a place. Players cite these and not the definitions' text. Assumes nothing.
-use mathlib.Core.Path.{_≡_, refl, sym, _∙_}
-use mathlib.Core.List.{List, []}
-use Prim.Native.Nat.{ℕ, _+_, _-_, _^_, _≤_, _<_}
+use mathlib.Core.Path.{_≡_, refl}
+use mathlib.Core.List.{List}
+use Prim.Native.Nat.{ℕ, _+_, _-_, _≤_, _<_}
 use native.Mathlib.Omega.{arith}
 use lib.ListN.{length, drop, length-drop, drop-of-length-le}
 use Rattle.numbers.specs.declared.Reading.{Reading}
@@ -11,7 +11,6 @@ use Rattle.numbers.proofs.Laws.{never, place}
 use lib.Dec.{leb}
 use mathlib.Core.Bool.{Bool, true, false}
 use borrow.Author.Tests.{leb-true, le-leb, lt-leb}
-use Rattle.recording.specs.declared.Part.{Part}
 use Rattle.recording.specs.Recording.{from, numberAt, noPart, partOf, partAt}
 
 pub nothing-there : (s : List ℕ) (at : ℕ) → readingOf 32 (drop at s) ≡ Nothing → numberAt s at ≡ Nothing

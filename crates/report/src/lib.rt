@@ -3,7 +3,7 @@
 use marker::Marker;
 use marker::MarkerRead;
 ghost use mathlib.Core.Path.{_≡_};
-ghost use Prim.Native.Nat.{_+_, _-_, _*_, _≤_, _<_};
+ghost use Prim.Native.Nat.{_+_, _-_, _*_, _<_};
 ghost use Rattle.marker.specs.Marker.{judge};
 ghost use Rattle.report.specs.Report.{onNumber, markerOn, ahead, reportOf};
 

@@ -3,7 +3,7 @@ use Prim.Native.Nat.{ℕ, _/_, _%_}
 use mathlib.Core.Bool.{cond}
 use mathlib.Core.List.{List}
 use lib.Dec.{eqb}
-use Rattle.plan.specs.Record.{planRead}
+use Rattle.plan_record.specs.Record.{planRead}
 use Rattle.receiving.specs.declared.Receiver.{Receiver}
 use Rattle.receiving.specs.declared.ReceiverOpened.{ReceiverOpened}
 use Rattle.receiving.specs.declared.Taken.{Taken}

@@ -13,7 +13,7 @@ ghost use Rattle.stage.specs.Exports.{openFrom, codedTake};
 fn open_from(bytes: &[u8], size: u32) -> ReceiverOpened
     ensures { λ r. ⌜ r ≡ openFrom (now (bytes .entry)) size ⌝ }
 {
-    let read = plan::read_plan(bytes);
+    let read = plan_record::read_plan(bytes);
     let p = read.plan;
     receiver::open(p, size)
 }

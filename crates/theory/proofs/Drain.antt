@@ -10,7 +10,7 @@ use native.Mathlib.Omega.{arith}
 use lib.ListN.{length}
 use Rattle.theory.specs.Sending.{Plan, carried, lineOf}
 use Rattle.theory.specs.Demands.{Sound}
-use Rattle.theory.specs.System.{Item, packet, marker, Line, State, atOpening, take, lineTaken, fetched, at, positions, current, step, run, packets, nth}
+use Rattle.theory.specs.System.{Item, packet, marker, Line, State, atOpening, take, lineTaken, fetched, atLine, positions, current, step, run, packets, nth}
 use Rattle.theory.specs.Words.{total, before, HasMarker, NoPacketIn, storedBelow, takes}
 use Rattle.theory.specs.FarEnd.{after, Cleared}
 use Rattle.theory.proofs.Choose.{choose-wins, cross}
@@ -23,22 +23,22 @@ use Rattle.theory.proofs.Histories.{at-same, at-other, at-all, Good, go
 abbrev heldOn : Line → ℕ
 heldOn l = length (l .store)
 
-held-above : (lines : ℕ → Line) (a : ℕ) (f : Line → Line) (n : ℕ) → n ≤ a → storedBelow (at a f lines) n ≡ storedBelow lines n
+held-above : (lines : ℕ → Line) (a : ℕ) (f : Line → Line) (n : ℕ) → n ≤ a → storedBelow (atLine a f lines) n ≡ storedBelow lines n
 held-above lines a f zero h = refl
 held-above lines a f (suc n) h = omega (arith, held-above lines a f n (omega arith), ap heldOn (at-other a f lines n (λ e. omega arith)))
 
 held-less : (lines : ℕ → Line) (a : ℕ) (f : Line → Line) (n : ℕ) → a < n → suc (heldOn (f (lines a))) ≡ heldOn (lines a)
-    → suc (storedBelow (at a f lines) n) ≡ storedBelow lines n
+    → suc (storedBelow (atLine a f lines) n) ≡ storedBelow lines n
 held-less lines a f zero h less = absurd (omega arith)
 held-less lines a f (suc n) h less = go (λ l. held-less lines a f n l less) (decLt a n)
   where
-    last : (m : ℕ) → a ≡ m → suc (storedBelow (at a f lines) (suc m)) ≡ storedBelow lines (suc m)
+    last : (m : ℕ) → a ≡ m → suc (storedBelow (atLine a f lines) (suc m)) ≡ storedBelow lines (suc m)
     last m e =
-        subst (λ (k : ℕ). suc (storedBelow (at a f lines) (suc k)) ≡ storedBelow lines (suc k)) e
+        subst (λ (k : ℕ). suc (storedBelow (atLine a f lines) (suc k)) ≡ storedBelow lines (suc k)) e
         (omega (arith, held-above lines a f a (le-refl a), ap heldOn (at-same a f lines a refl)))
 
-    go : (a < n → suc (storedBelow (at a f lines) n) ≡ storedBelow lines n) → Dec (a < n)
-        → suc (storedBelow (at a f lines) (suc n)) ≡ storedBelow lines (suc n)
+    go : (a < n → suc (storedBelow (atLine a f lines) n) ≡ storedBelow lines n) → Dec (a < n)
+        → suc (storedBelow (atLine a f lines) (suc n)) ≡ storedBelow lines (suc n)
     go fewer (yes l) = omega (arith, fewer l, ap heldOn (at-other a f lines n (λ e. omega arith)))
     go fewer (no l) = last n (omega arith)
 
@@ -70,7 +70,7 @@ wait-step p s empty =
     a : ℕ
     a = current p s
 
-    go : (j : ℕ) → Dec (a ≡ j) → at a (fetched p a) (s .line) j ≡ s .line j
+    go : (j : ℕ) → Dec (a ≡ j) → atLine a (fetched p a) (s .line) j ≡ s .line j
     go j (yes e) =
         at-same a (fetched p a) (s .line) j e
         ∙ ap (λ (w : List Item). lineTaken p a w (s .line j)) (subst (λ (i : ℕ). s .line i .store ≡ []) e empty)

@@ -11,37 +11,37 @@ use borrow.Author.Tests.{eq-eqb, ne-eqb}
 use lib.ListN.{length}
 use Rattle.theory.specs.Sending.{Plan, choose, charged, carried, lineOf}
 use Rattle.theory.specs.System.{Item, packet, marker, Line, State, atOpening, Step, send, ask, arrive, lose, take, put, arrived, dropped, fetched}
-use Rattle.theory.specs.System.{at, current, step, run, sentBy, packets, nth, sizes, Out, handed, outs}
+use Rattle.theory.specs.System.{atLine, current, step, run, sentBy, packets, nth, sizes, Out, handed, outs}
 use Rattle.theory.specs.Words.{total, before}
 use Rattle.theory.specs.FarEnd.{after, Near, Missing}
 use Rattle.theory.proofs.Carried.{carried-mono}
 use Rattle.theory.proofs.Invariant.{next, Chain, LineOk, spent}
 use Rattle.theory.proofs.Invariant.{keep-put, keep-other, keep-ask, keep-arrive, keep-lose, keep-take, keep-opened}
 
-pub at-same : (i : ℕ) (f : Line → Line) (ls : ℕ → Line) (j : ℕ) → i ≡ j → at i f ls j ≡ f (ls j)
-unfolding at
+pub at-same : (i : ℕ) (f : Line → Line) (ls : ℕ → Line) (j : ℕ) → i ≡ j → atLine i f ls j ≡ f (ls j)
+unfolding atLine
 at-same i f ls j e = ap (λ (t : Bool). cond t (f (ls j)) (ls j)) (eq-eqb i j e)
 
-pub at-other : (i : ℕ) (f : Line → Line) (ls : ℕ → Line) (j : ℕ) → (i ≡ j → ⊥) → at i f ls j ≡ ls j
-unfolding at
+pub at-other : (i : ℕ) (f : Line → Line) (ls : ℕ → Line) (j : ℕ) → (i ≡ j → ⊥) → atLine i f ls j ≡ ls j
+unfolding atLine
 at-other i f ls j e = ap (λ (t : Bool). cond t (f (ls j)) (ls j)) (ne-eqb i j e)
 
 -- what f leaves as it was stays on every line
 pub at-field {ℓ} : {A : Type ℓ} (g : Line → A) (i : ℕ) (f : Line → Line) (ls : ℕ → Line)
-    → ((l : Line) → g (f l) ≡ g l) → (j : ℕ) → g (at i f ls j) ≡ g (ls j)
+    → ((l : Line) → g (f l) ≡ g l) → (j : ℕ) → g (atLine i f ls j) ≡ g (ls j)
 at-field {A = A} g i f ls h j = go (ℕ-discrete i j)
   where
-    go : Dec (i ≡ j) → g (at i f ls j) ≡ g (ls j)
+    go : Dec (i ≡ j) → g (atLine i f ls j) ≡ g (ls j)
     go (yes e) = ap g (at-same i f ls j e) ∙ h (ls j)
     go (no e) = ap g (at-other i f ls j e)
 
 -- a property of every line, by its number, after line i has changed
 pub at-all : (Q : ℕ → Line → Type 0) (i : ℕ) (f : Line → Line) (ls : ℕ → Line)
-    → Q i (f (ls i)) → ((j : ℕ) → (i ≡ j → ⊥) → Q j (ls j)) → (j : ℕ) → Q j (at i f ls j)
+    → Q i (f (ls i)) → ((j : ℕ) → (i ≡ j → ⊥) → Q j (ls j)) → (j : ℕ) → Q j (atLine i f ls j)
 at-all Q i f ls a b j = go (ℕ-discrete i j)
   where
-    go : Dec (i ≡ j) → Q j (at i f ls j)
-    go (yes e) = subst (λ (k : ℕ). Q k (at i f ls k)) e (subst (λ (l : Line). Q i l) (sym (at-same i f ls i refl)) a)
+    go : Dec (i ≡ j) → Q j (atLine i f ls j)
+    go (yes e) = subst (λ (k : ℕ). Q k (atLine i f ls k)) e (subst (λ (l : Line). Q i l) (sym (at-same i f ls i refl)) a)
     go (no e) = subst (λ (l : Line). Q j l) (sym (at-other i f ls j e)) (b j e)
 
 module _ (p : Plan) (bytes : ℕ → List ℕ) where

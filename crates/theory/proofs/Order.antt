@@ -13,7 +13,7 @@ use lib.Dec.{leb}
 use lib.ListN.{length}
 use Rattle.theory.specs.Sending.{Plan, carried, lineOf}
 use Rattle.theory.specs.Demands.{Sound}
-use Rattle.theory.specs.System.{Item, packet, marker, Line, State, atOpening, Step, send, ask, arrive, lose, take, loseOf, lineTaken, dropped, fetched, at, positions, current, step, run, packets, nth, Out, outOf, handed, outs}
+use Rattle.theory.specs.System.{Item, packet, marker, Line, State, atOpening, Step, send, ask, arrive, lose, take, loseOf, lineTaken, dropped, fetched, atLine, positions, current, step, run, packets, nth, Out, outOf, handed, outs}
 use Rattle.theory.specs.Words.{Beginning, total, Yielded, NoneBehind, has, sieve, awaited}
 use Rattle.theory.specs.FarEnd.{after, Order}
 use Rattle.theory.proofs.Lines.{arrived-taken, arrived-lost, dropped-taken, fetched-lost}
@@ -32,7 +32,7 @@ lose-back c (packet k x ∷ rest) l none = none .1
 lose-back c (marker k m ∷ rest) l none = none
 
 at-lost : (c i : ℕ) (f : Line → Line) (lines : ℕ → Line) → ((l : Line) → f l .lost ≡ l .lost)
-    → (j : ℕ) → NoneBehind c (at i f lines j .lost) → NoneBehind c (lines j .lost)
+    → (j : ℕ) → NoneBehind c (atLine i f lines j .lost) → NoneBehind c (lines j .lost)
 at-lost c i f lines same j none = subst (λ (w : List Item). NoneBehind c w) (at-field (λ (l : Line). l .lost) i f lines same j) none
 
 step-back : (p : Plan) (c : ℕ) (s : State) (e : Step) (j : ℕ) → NoneBehind c (step p s e .line j .lost) → NoneBehind c (s .line j .lost)
@@ -57,11 +57,11 @@ take-yielded p i c [] l y = y
 take-yielded p i c (packet k x ∷ rest) l y = y
 take-yielded p i c (marker k m ∷ rest) l y = inr y
 
-at-taken : (i : ℕ) (f : Line → Line) (lines : ℕ → Line) → ((l : Line) → f l .taken ≡ l .taken) → (j : ℕ) → at i f lines j .taken ≡ lines j .taken
+at-taken : (i : ℕ) (f : Line → Line) (lines : ℕ → Line) → ((l : Line) → f l .taken ≡ l .taken) → (j : ℕ) → atLine i f lines j .taken ≡ lines j .taken
 at-taken i f lines same j = at-field (λ (l : Line). l .taken) i f lines same j
 
 at-yielded : (c i : ℕ) (f : Line → Line) (lines : ℕ → Line) → ((l : Line) → f l .taken ≡ l .taken)
-    → (j : ℕ) → Yielded c (lines j .taken) → Yielded c (at i f lines j .taken)
+    → (j : ℕ) → Yielded c (lines j .taken) → Yielded c (atLine i f lines j .taken)
 at-yielded c i f lines same j y = subst (λ (w : List Item). Yielded c w) (sym (at-taken i f lines same j)) y
 
 step-yielded : (p : Plan) (c : ℕ) (s : State) (e : Step) (j : ℕ) → Yielded c (s .line j .taken) → Yielded c (step p s e .line j .taken)
@@ -74,7 +74,7 @@ step-yielded p c s take j y = go (ℕ-discrete a j)
     a : ℕ
     a = current p s
 
-    go : Dec (a ≡ j) → Yielded c (at a (fetched p a) (s .line) j .taken)
+    go : Dec (a ≡ j) → Yielded c (atLine a (fetched p a) (s .line) j .taken)
     go (yes e) =
         subst (λ (l : Line). Yielded c (l .taken)) (sym (at-same a (fetched p a) (s .line) j e))
         (take-yielded p a c (s .line j .store) (s .line j) y)

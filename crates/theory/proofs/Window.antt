@@ -10,7 +10,7 @@ use lib.ListN.{length}
 use Rattle.theory.specs.Sending.{Plan, rounds, choose}
 use Rattle.theory.specs.Demands.{Sound, Fit}
 use Rattle.theory.specs.System.{Item, packet, marker, Line, State, atOpening, Step, send, ask, arrive, lose, take, lineTaken}
-use Rattle.theory.specs.System.{arrived, dropped, fetched, at, positions, current, step, run, packets, nth}
+use Rattle.theory.specs.System.{arrived, dropped, fetched, atLine, positions, current, step, run, packets, nth}
 use Rattle.theory.specs.FarEnd.{after, nearHead, nearStep, Near, Window}
 use Rattle.theory.proofs.Lines.{arrived-position, dropped-position}
 use Rattle.theory.proofs.Choose.{choose-wins, div-mono}
@@ -67,7 +67,7 @@ module _ (p : Plan) (sound : Sound p) (bytes : ℕ → List ℕ) (n : ℕ) (fit 
       × (rounds p (positions (step p s take)) i < rounds p (positions s) (current p s) + 2147483648)
   take-span s g c near h =
       let a : ℕ = current p s in
-      let q : at a (fetched p a) (s .line) a .position ≡ fetched p a (s .line a) .position =
+      let q : atLine a (fetched p a) (s .line) a .position ≡ fetched p a (s .line a) .position =
       ap (λ (l : Line). l .position) (at-same a (fetched p a) (s .line) a refl) in
       span (positions s) (positions (step p s take)) h
       (omega (arith, q, no-fall s a (s .line a .store) g refl))

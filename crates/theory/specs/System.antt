@@ -110,8 +110,8 @@ abbrev pub fetched : Plan → ℕ → Line → Line
 fetched p i l = lineTaken p i (l .store) l
 
 -- the lines, with line i changed
-unfoldable pub at : ℕ → (Line → Line) → (ℕ → Line) → ℕ → Line
-at i f lines j = cond (eqb i j) (f (lines j)) (lines j)
+unfoldable pub atLine : ℕ → (Line → Line) → (ℕ → Line) → ℕ → Line
+atLine i f lines j = cond (eqb i j) (f (lines j)) (lines j)
 
 -- the far end takes lines by the rule of sending, on its own positions
 abbrev pub positions : State → ℕ → ℕ
@@ -124,12 +124,12 @@ abbrev pub step : Plan → State → Step → State
 step p s (send x) = record {
   sent = suc (s .sent);
   carries = charged p (s .carries) (length x);
-  line = at (choose p (s .carries)) (put (packet (s .sent) x)) (s .line);
+  line = atLine (choose p (s .carries)) (put (packet (s .sent) x)) (s .line);
 }
-step p s (ask i) = record { sent = s .sent; carries = s .carries; line = at i (put (marker (s .sent) (s .carries i))) (s .line) }
-step p s (arrive i) = record { sent = s .sent; carries = s .carries; line = at i arrived (s .line) }
-step p s (lose i) = record { sent = s .sent; carries = s .carries; line = at i dropped (s .line) }
-step p s take = record { sent = s .sent; carries = s .carries; line = at (current p s) (fetched p (current p s)) (s .line) }
+step p s (ask i) = record { sent = s .sent; carries = s .carries; line = atLine i (put (marker (s .sent) (s .carries i))) (s .line) }
+step p s (arrive i) = record { sent = s .sent; carries = s .carries; line = atLine i arrived (s .line) }
+step p s (lose i) = record { sent = s .sent; carries = s .carries; line = atLine i dropped (s .line) }
+step p s take = record { sent = s .sent; carries = s .carries; line = atLine (current p s) (fetched p (current p s)) (s .line) }
 
 abbrev pub run : Plan → State → List Step → State
 run p s [] = s

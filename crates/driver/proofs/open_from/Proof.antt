@@ -1,7 +1,7 @@
 -- `driver::open_from` meets its contract. Assumes nothing.
 use borrow.Author.Needs.{needs}
 use mathlib.Core.Path.{ap, _∙_}
-use Rattle.plan.specs.declared.PlanRead.{PlanRead}
+use Rattle.plan_record.specs.declared.PlanRead.{PlanRead}
 use Rattle.sending.specs.Sender.{openSender}
 use Rattle.driver.proofs.open_from.Statement.{statement}
 use Rattle.driver.proofs.open_from.Tie as tie

@@ -1,7 +1,7 @@
 -- `driver::stripes_check_plan` meets its contract: the number is the reading's. Assumes nothing.
 use borrow.Author.Needs.{needs}
 use mathlib.Core.Path.{ap}
-use Rattle.plan.specs.declared.PlanRead.{PlanRead}
+use Rattle.plan_record.specs.declared.PlanRead.{PlanRead}
 use Rattle.driver.proofs.stripes_check_plan.Statement.{statement}
 use Rattle.driver.proofs.stripes_check_plan.Tie as tie
 

@@ -4,8 +4,8 @@ use mathlib.Core.Path.{_≡_, ap, _∙_}
 use Prim.Native.Nat.{ℕ}
 use mathlib.Core.List.{List}
 use Rattle.numbers.specs.Writing.{Outcome}
-use Rattle.plan.specs.declared.PlanRead.{PlanRead}
-use Rattle.plan.specs.Record.{planRead, planWritten}
+use Rattle.plan_record.specs.declared.PlanRead.{PlanRead}
+use Rattle.plan_record.specs.Record.{planRead, planWritten}
 use Rattle.driver.specs.Exports.{exported, copied}
 use Rattle.driver.proofs.Small.{plan-small}
 use Rattle.driver.proofs.stripes_copy_plan.Statement.{statement}

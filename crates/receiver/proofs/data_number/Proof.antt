@@ -1,5 +1,4 @@
 -- `receiver::data_number` meets its contract. Assumes nothing.
-use borrow.Author.Needs.{needs}
 use borrow.Author.Tests.{le-leb, lt-leb}
 use Rattle.receiver.proofs.data_number.Statement.{statement}
 use Rattle.receiver.proofs.data_number.Tie as tie

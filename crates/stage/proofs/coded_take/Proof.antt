@@ -1,7 +1,7 @@
 -- `stage::coded_take` meets its contract: a take's word has room. Assumes nothing.
 use borrow.Author.Needs.{needs}
 use native.Mathlib.Omega.{arith}
-use mathlib.Core.Path.{_≡_, _∙_}
+use mathlib.Core.Path.{_≡_}
 use Prim.Native.Nat.{ℕ, _%_, _^_}
 use mathlib.Core.List.{List}
 use Rattle.receiving.specs.declared.Receiver.{Receiver}

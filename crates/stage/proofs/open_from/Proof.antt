@@ -1,7 +1,7 @@
 -- `stage::open_from` meets its contract. Assumes nothing.
 use borrow.Author.Needs.{needs}
 use mathlib.Core.Path.{ap, _∙_}
-use Rattle.plan.specs.declared.PlanRead.{PlanRead}
+use Rattle.plan_record.specs.declared.PlanRead.{PlanRead}
 use Rattle.receiving.specs.Receiver.{openReceiver}
 use Rattle.stage.proofs.open_from.Statement.{statement}
 use Rattle.stage.proofs.open_from.Tie as tie

@@ -1,9 +1,7 @@
 -- `taking::take_checked` meets its contract. Assumes nothing.
 use borrow.Author.Needs.{needs}
 use native.Mathlib.Omega.{arith}
-use mathlib.Core.Path.{_≡_}
-use Prim.Native.Nat.{_+_, _≤_, _<_}
-use lib.ListN.{length}
+use Prim.Native.Nat.{_<_}
 use Rattle.receiving.proofs.Laws.{valid}
 use Rattle.receiving.proofs.Stores.{few-rings, Place, place, lent-is}
 use Rattle.receiving.proofs.Taking.{ready, took}

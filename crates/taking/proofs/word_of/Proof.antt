@@ -2,7 +2,7 @@
 use borrow.Author.Needs.{needs}
 use native.Mathlib.Omega.{arith}
 use mathlib.Core.Path.{_≡_, ap, sym, _∙_}
-use Prim.Native.Nat.{ℕ, _+_, _*_, _%_, _^_}
+use Prim.Native.Nat.{_+_, _*_, _%_, _^_}
 use Rattle.receiving.specs.declared.Taken.{Taken}
 use Rattle.taking.specs.Words.{takenWord}
 use Rattle.taking.proofs.word_of.Statement.{statement}

@@ -1,4 +1,4 @@
--- `plan::whole_row` meets its contract: after i turns the first i quanta stand behind the three numbers. Assumes nothing.
+-- `plan_record::whole_row` meets its contract: after i turns the first i quanta stand behind the three numbers. Assumes nothing.
 use Prim.Native.Nat.{ℕ, suc, _+_, _-_, _≤_, _<_}
 use native.Mathlib.Numerals.{add-one}
 use mathlib.Core.Path.{_≡_, refl, ap, sym, _∙_}
@@ -7,8 +7,8 @@ use lib.ListN.{length, take, getD, length-set}
 use lib.Seq.{take-suc, take-suc-set, take-all}
 use borrow.Author.Needs.{needs}
 use native.Mathlib.Omega.{arith}
-use Rattle.plan.proofs.whole_row.Statement.{statement}
-use Rattle.plan.proofs.whole_row.Tie as tie
+use Rattle.plan_record.proofs.whole_row.Statement.{statement}
+use Rattle.plan_record.proofs.whole_row.Tie as tie
 
 abbrev Inv-loop : tie.InvT-loop
 Inv-loop lines max interval quanta row₀ i₀ row i =

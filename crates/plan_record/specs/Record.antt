@@ -9,10 +9,10 @@ use Rattle.numbers.specs.declared.Reading.the-variants.{Number, Nothing}
 use Rattle.numbers.specs.Checks.{check, inRange}
 use Rattle.numbers.specs.Coding.{readingOf, onward, rowBytes}
 use Rattle.numbers.specs.Writing.{Outcome, room, outcome}
 use Rattle.plan.specs.declared.Plan.{Plan}
-use Rattle.plan.specs.declared.PlanRead.{PlanRead}
+use Rattle.plan_record.specs.declared.PlanRead.{PlanRead}
 use Rattle.plan.specs.Limits.{leastLines, mostLines, leastMax, mostMax, mostQuantum, leastInterval, mostInterval}
 use Rattle.plan.specs.Plan.{zeros, noPlan, planOk}
 
 -- ---- reading
 

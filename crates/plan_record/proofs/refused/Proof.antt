@@ -1,9 +1,9 @@
--- `plan::refused` meets its contract. Assumes nothing.
+-- `plan_record::refused` meets its contract. Assumes nothing.
 use mathlib.Core.Path.{ap}
 use borrow.Author.Needs.{needs}
 use Rattle.plan.specs.declared.Plan.{Plan}
-use Rattle.plan.proofs.refused.Statement.{statement}
-use Rattle.plan.proofs.refused.Tie as tie
+use Rattle.plan_record.proofs.refused.Statement.{statement}
+use Rattle.plan_record.proofs.refused.Tie as tie
 
 returns : tie.Need-returns
 returns c = ap (λ (p : Plan). record { number = 1; plan = p }) (c .no-plan .ensures)

@@ -1,4 +1,4 @@
--- `plan::write_plan` meets its contract: a plan in range is written as its row of numbers. Assumes nothing.
+-- `plan_record::write_plan` meets its contract: a plan in range is written as its row of numbers. Assumes nothing.
 use borrow.Author.Needs.{needs}
 use borrow.Author.Tests.{not-true, not-false}
 use native.Mathlib.Omega.{arith}
@@ -8,10 +8,11 @@ use mathlib.Core.List.{List, _∷_}
 use Prim.Native.Nat.{ℕ, suc, _+_}
 use lib.ListN.{length, take}
 use lib.Seq.{length-take-le}
 use Rattle.plan.specs.Plan.{planOk}
-use Rattle.plan.proofs.Laws.{in-range, not-written, as-written}
-use Rattle.plan.proofs.write_plan.Statement.{statement}
-use Rattle.plan.proofs.write_plan.Tie as tie
+use Rattle.plan.proofs.Laws.{in-range}
+use Rattle.plan_record.proofs.Laws.{not-written, as-written}
+use Rattle.plan_record.proofs.write_plan.Statement.{statement}
+use Rattle.plan_record.proofs.write_plan.Tie as tie
 
 take-fourth : (n a b c : ℕ) (q : List ℕ) → take (n + 3) (a ∷ b ∷ c ∷ q) ≡ a ∷ b ∷ c ∷ take n q
 take-fourth n a b c q = let e : n + 3 ≡ suc (suc (suc n)) = omega arith in rw e

@@ -1,4 +1,4 @@
--- `plan::read_plan` meets its contract: each number is read where the definition reads it. Assumes nothing.
+-- `plan_record::read_plan` meets its contract: each number is read where the definition reads it. Assumes nothing.
 use borrow.Author.Needs.{needs}
 use native.Mathlib.Omega.{arith}
 use mathlib.Core.Path.{_≡_, sym, _∙_}
@@ -9,11 +9,11 @@ use Rattle.numbers.specs.declared.Reading.the-variants.{Number}
 use Rattle.numbers.specs.Coding.{readingOf}
 use Rattle.numbers.proofs.Checks.{from-range}
 use Rattle.numbers.proofs.Laws.{rest, place}
 use Rattle.plan.specs.Limits.{leastLines, mostLines, leastMax, mostMax, leastInterval, mostInterval}
-use Rattle.plan.specs.Record.{within}
-use Rattle.plan.proofs.Laws.{kept, lines-refused, max-refused, interval-refused, quanta-next}
-use Rattle.plan.proofs.read_plan.Statement.{statement}
-use Rattle.plan.proofs.read_plan.Tie as tie
+use Rattle.plan_record.specs.Record.{within}
+use Rattle.plan_record.proofs.Laws.{kept, lines-refused, max-refused, interval-refused, quanta-next}
+use Rattle.plan_record.proofs.read_plan.Statement.{statement}
+use Rattle.plan_record.proofs.read_plan.Tie as tie
 
 -- the record, and what each reading told
 abbrev recordOf : tie.After-lines → List ℕ

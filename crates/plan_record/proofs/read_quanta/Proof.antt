@@ -1,4 +1,4 @@
--- `plan::read_quanta` meets its contract: the quanta that are left, read from here, make the whole answer. Assumes nothing.
+-- `plan_record::read_quanta` meets its contract: the quanta that are left, read from here, make the whole answer. Assumes nothing.
 use borrow.Author.Needs.{needs}
 use native.Mathlib.Nat.{sub-zero}
 use native.Mathlib.Omega.{arith}
@@ -9,11 +9,11 @@ use lib.Seq.{drop-drop}
 use Rattle.numbers.specs.declared.Reading.the-variants.{Number, Nothing}
 use Rattle.numbers.specs.Coding.{readingOf}
 use Rattle.numbers.proofs.Laws.{rest, place}
 use Rattle.plan.specs.Limits.{mostQuantum}
-use Rattle.plan.specs.Record.{within, quantaRead}
-use Rattle.plan.proofs.Laws.{kept, quantum-refused, quantum-next, bytes-over, no-byte-over}
-use Rattle.plan.proofs.read_quanta.Statement.{statement}
-use Rattle.plan.proofs.read_quanta.Tie as tie
+use Rattle.plan_record.specs.Record.{within, quantaRead}
+use Rattle.plan_record.proofs.Laws.{kept, quantum-refused, quantum-next, bytes-over, no-byte-over}
+use Rattle.plan_record.proofs.read_quanta.Statement.{statement}
+use Rattle.plan_record.proofs.read_quanta.Tie as tie
 
 abbrev Inv-loop : tie.InvT-loop
 Inv-loop s p plan₀ n at₀ i₀ plan at i =

@@ -16,11 +16,11 @@ use Rattle.numbers.specs.Checks.{inRange}
 use Rattle.numbers.specs.Coding.{Bytes, readingOf, onward, coded, rowBytes}
 use Rattle.numbers.proofs.Checks.{from-range}
 use Rattle.numbers.proofs.Laws.{round-trip, onward-written, onward-number, split, bytes-drop}
 use Rattle.plan.specs.declared.Plan.{Plan}
-use Rattle.plan.specs.declared.PlanRead.{PlanRead}
+use Rattle.plan_record.specs.declared.PlanRead.{PlanRead}
 use Rattle.plan.specs.Limits.{mostQuantum}
-use Rattle.plan.specs.Record.{readPlan, refusedPlan, within, field, withQuantum, quantaRead}
-use Rattle.plan.proofs.Laws.{kept}
+use Rattle.plan_record.specs.Record.{readPlan, refusedPlan, within, field, withQuantum, quantaRead}
+use Rattle.plan_record.proofs.Laws.{kept}
 
 -- a plan that is read is none that is refused
 pub read-not-refused : {p : Plan} → refusedPlan ≡ readPlan p → ⊥

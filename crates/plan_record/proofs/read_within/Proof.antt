@@ -1,11 +1,11 @@
--- `plan::read_within` meets its contract. Assumes nothing.
+-- `plan_record::read_within` meets its contract. Assumes nothing.
 use borrow.Author.Needs.{needs}
 use mathlib.Core.Path.{_≡_, sym, _∙_}
 use Rattle.numbers.specs.declared.Reading.the-variants.{Number}
 use Rattle.numbers.specs.Coding.{readingOf}
-use Rattle.plan.proofs.Laws.{within-nothing, within-number, within-other}
-use Rattle.plan.proofs.read_within.Statement.{statement}
-use Rattle.plan.proofs.read_within.Tie as tie
+use Rattle.plan_record.proofs.Laws.{within-nothing, within-number, within-other}
+use Rattle.plan_record.proofs.read_within.Statement.{statement}
+use Rattle.plan_record.proofs.read_within.Tie as tie
 
 -- the number that was read
 told :

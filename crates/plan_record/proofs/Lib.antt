@@ -1,0 +1,4 @@
+pub mod Laws
+mod Records
+pub mod Promises
+mod Determined
