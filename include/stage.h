@@ -16,7 +16,7 @@
  *   5  not a marker record, or its counter is outside 1 to the line's quantum
  *   6  the marker record is another line's
  *   7  too little room in the line's store
- *   8  output shorter than the packet
+ *   8  output, or what a run of takes has left of it, shorter than the packet
  *   9  the store is not `lines` times `size` bytes long, or holds what no call has stored
  */
 #ifndef STAGE_H
@@ -65,7 +65,7 @@ uint32_t stage_data(struct stage_receiver *receiver, uint32_t line, const uint8_
  * stay as they were. */
 uint32_t stage_marker(struct stage_receiver *receiver, uint32_t line, const uint8_t *marker, size_t marker_len, uint8_t *store, size_t store_len);
 
-/* Of a word of stage_take, or of the log of stage_takes: what it was, its line, and the value above them. */
+/* Of a word of stage_take, or of the log or the `why` of stage_takes: what it was, its line, and the value above them. */
 #define STAGE_KIND(word) ((uint32_t)((word) & 3u))
 #define STAGE_LINE(word) ((uint32_t)((word) >> 2 & 15u))
 #define STAGE_VALUE(word) ((uint64_t)(word) >> 6)
@@ -85,11 +85,31 @@ uint32_t stage_marker(struct stage_receiver *receiver, uint32_t line, const uint
  * that applies. Waiting or refused, the receiver stays as it was; but for a packet, out stays as it was. */
 uint64_t stage_take(struct stage_receiver *receiver, const uint8_t *store, size_t store_len, uint8_t *out, size_t out_len);
 
-/* Takes, one after another, until one waits or is refused, or the log is full. Answers how many there were: as many words stand at the front of
- * log, each STAGE_DATA, STAGE_MISSING or STAGE_BEHIND, and their packets lie one behind another at the front of out; the rest of log and out
- * stays. Where the log is not full, the next stage_take tells which line is waited for, or the number of the refusal; 8 where the next packet
- * is longer than what the packets before it have left of out. */
-size_t stage_takes(struct stage_receiver *receiver, const uint8_t *store, size_t store_len, uint8_t *out, size_t out_len, uint64_t *log, size_t log_len);
+/* What a run of takes answers. */
+struct stage_run {
+    uint64_t why; /* STAGE_FULL, or the word of the take that stopped the run, as stage_take would answer it */
+    size_t taken; /* how many takes there were, and so how many words stand at the front of log */
+    size_t bytes; /* how many bytes their packets fill at the front of out */
+};
+
+/* A run's `why` where the log is full: no take's word, since no packet is empty. */
+#define STAGE_FULL 0u
+
+/* Takes, one after another, until one waits or is refused, or the log is full. Each of the words in log is STAGE_DATA, STAGE_MISSING or
+ * STAGE_BEHIND, and the packets lie one behind another at the front of out; the rest of log and out stays. What was taken stands, however the run
+ * ends; the take that stopped it has changed nothing. `why` is one of:
+ *
+ *   STAGE_FULL                 the log is full. There may be more to take.
+ *   STAGE_WAITING + 4 * line   the line's queue is empty: the next packet comes on it.
+ *   STAGE_WAITING + 64 * 2     the receiver's state is not valid. This is judged first, before the log is looked at: also where log_len is 0.
+ *   STAGE_WAITING + 64 * 9     the store's length is wrong, judged next and before the log is looked at too; or, with a store of the right
+ *                              length, the next item is one that no call has stored.
+ *   STAGE_WAITING + 64 * 8     the next packet is longer than what is left of out behind the `bytes` written. Empty out, or go on behind them with
+ *                              another, and call again; plan.max bytes have room for any packet.
+ *
+ * Where it is not STAGE_FULL, STAGE_REFUSED, STAGE_VALUE and STAGE_LINE read it, as they read a word of stage_take. */
+struct stage_run stage_takes(struct stage_receiver *receiver, const uint8_t *store, size_t store_len, uint8_t *out, size_t out_len, uint64_t *log,
+                             size_t log_len);
 
 #ifdef __cplusplus
 }

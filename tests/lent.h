@@ -199,13 +199,13 @@ static inline uint64_t lent_take(struct stage_receiver *receiver, const uint8_t 
     return answer;
 }
 
-static inline size_t lent_takes(struct stage_receiver *receiver, const uint8_t *store, size_t store_len, uint8_t *out, size_t out_len, uint64_t *log,
-                                size_t log_len)
+static inline struct stage_run lent_takes(struct stage_receiver *receiver, const uint8_t *store, size_t store_len, uint8_t *out, size_t out_len,
+                                          uint64_t *log, size_t log_len)
 {
     struct stage_receiver *s = lend(receiver, sizeof *receiver);
     uint8_t *all = lend(store, store_len), *o = lend(out, out_len);
     uint64_t *l = lend(log, log_len * sizeof *log);
-    size_t answer = stage_takes(s, all, store_len, o, out_len, l, log_len);
+    struct stage_run answer = stage_takes(s, all, store_len, o, out_len, l, log_len);
 
     give_back(s, receiver, sizeof *receiver);
     put_away(all, store, store_len);

@@ -95,21 +95,45 @@ static void sessions(void)
     takes_packet(8, 1);
 }
 
-/* A run of takes lays the packets one behind another, and logs each take. */
+static uint64_t refusal(uint32_t number)
+{
+    return STAGE_WAITING + 64 * (uint64_t)number;
+}
+
+/* Whether a run answers this: why it ended, its takes and their bytes. */
+static int answers(struct stage_run run, uint64_t why, size_t taken, size_t bytes)
+{
+    return run.why == why && run.taken == taken && run.bytes == bytes;
+}
+
+/* A run of takes lays the packets one behind another, and logs each take. Ended by 8 or by a full log, the next goes on behind the last. */
 static void run(void)
 {
-    static uint8_t all[1200];
+    static uint8_t first[1200], second[1200];
     static const uint64_t expected[] = { 64 * 400, 64 * 300, 1 + 64 * 500, 4 + 64 * 450 };
     uint64_t log[9];
+    struct stage_run some;
 
     feed(2, 1);
-    memset(all, 0xEE, sizeof all);
+    memset(first, 0xEE, sizeof first);
+    memset(second, 0xEE, sizeof second);
     memset(log, 0xEE, sizeof log);
-    check(stage_takes(&receiver, store, STORE, all, sizeof all, log, 9) == 4, "four takes, then too little room is left");
+    some = stage_takes(&receiver, store, STORE, first, sizeof first, log, 1);
+    check(answers(some, STAGE_FULL, 1, 400), "one take fills the log");
+    check(first[399] == 1 && first[400] == 0xEE, "one packet");
+    check(answers(stage_takes(&receiver, store, STORE, first + some.bytes, sizeof first - some.bytes, log + 1, 8), refusal(8), 3, 750),
+          "three takes behind it, then too little room is left");
     check(memcmp(log, expected, sizeof expected) == 0 && log[4] == UINT64_C(0xEEEEEEEEEEEEEEEE), "the log");
-    check(all[0] == 1 && all[399] == 1 && all[400] == 3 && all[699] == 3 && all[700] == 4 && all[1149] == 4 && all[1150] == 0xEE, "the packets");
-    check(stage_takes(&receiver, store, STORE, all, sizeof all, log, 9) == 4, "5, 6, 7 and a marker; for want of room not 8");
-    check(stage_takes(&receiver, store, STORE, all, sizeof all, NULL, 0) == 0, "no log, no take");
+    check(first[0] == 1 && first[399] == 1 && first[400] == 3 && first[699] == 3 && first[700] == 4 && first[1149] == 4 && first[1150] == 0xEE,
+          "the packets");
+    some = stage_takes(&receiver, store, STORE, second, 500, log, 9);
+    check(answers(some, refusal(8), 1, 200), "packet 5 goes on in a second output; for want of room not 6");
+    check(answers(stage_takes(&receiver, store, STORE, second + some.bytes, sizeof second - some.bytes, log, 9), refusal(8), 3, 1000),
+          "6, 7 and a marker; for want of room not 8");
+    check(second[0] == 5 && second[199] == 5 && second[200] == 6 && second[699] == 6 && second[700] == 7 && second[1199] == 7, "the packets behind 4");
+    check(answers(stage_takes(&receiver, store, STORE, second, sizeof second, NULL, 0), STAGE_FULL, 0, 0), "no log, no take");
+    check(answers(stage_takes(&receiver, store, STORE, second, sizeof second, log, 9), STAGE_WAITING + 4 * 1, 1, 100), "8, then waiting on line 1");
+    check(answers(stage_takes(&receiver, store, STORE, second, sizeof second, log, 9), STAGE_WAITING + 4 * 1, 0, 0), "waiting on line 1");
 }
 
 /* A call that must be refused: its answer, and that nothing changes. */
@@ -125,15 +149,21 @@ static void run(void)
         check(memcmp(out_before, out, ROOM) == 0, what " leaves the output");             \
     } while (0)
 
-static uint64_t refusal(uint32_t number)
+/* A run that must be refused, before its log is looked at: with none, and with one that must stay. */
+static void run_refused(size_t store_len, uint32_t number)
 {
-    return STAGE_WAITING + 64 * (uint64_t)number;
+    uint64_t log[2] = { 7, 7 };
+
+    REFUSED(answers(stage_takes(&receiver, store, store_len, out, ROOM, NULL, 0), refusal(number), 0, 0), 1, "a run with no log");
+    REFUSED(answers(stage_takes(&receiver, store, store_len, out, ROOM, log, 2), refusal(number), 0, 0), 1, "a run with a log");
+    check(log[0] == 7 && log[1] == 7, "a refused run leaves the log");
 }
 
 static void refusals(void)
 {
     static const uint8_t good[] = { 0, 1, 0xE8, 0x07 }, cut[] = { 0, 1 }, zero[] = { 0, 1, 0 }, above[] = { 0, 1, 0xE9, 0x07 }, other[] = { 1, 1, 5 };
     struct stage_receiver closed;
+    uint64_t log[2];
 
     memset(&closed, 0, sizeof closed);
     check(stage_open(&receiver, record, sizeof record, 502) == 1 && memcmp(&receiver, &closed, sizeof closed) == 0, "a store too small");
@@ -142,6 +172,8 @@ static void refusals(void)
     REFUSED(stage_data(&receiver, 0, packet, 1, store, STORE), 2, "data to a closed receiver");
     REFUSED(stage_marker(&receiver, 0, good, sizeof good, store, STORE), 2, "a marker to a closed receiver");
     REFUSED(stage_take(&receiver, store, STORE, out, ROOM), refusal(2), "a take of a closed receiver");
+    run_refused(STORE, 2);
+    run_refused(STORE - 1, 2);
 
     opened(TIGHT);
     REFUSED(stage_data(&receiver, 0, packet, 1, store, 2 * TIGHT - 1), 9, "a short store");
@@ -154,6 +186,8 @@ static void refusals(void)
     REFUSED(stage_marker(&receiver, 0, above, sizeof above, store, 2 * TIGHT), 5, "a counter above the quantum");
     REFUSED(stage_marker(&receiver, 0, other, sizeof other, store, 2 * TIGHT), 6, "another line's marker");
     REFUSED(stage_take(&receiver, store, 2 * TIGHT - 1, out, ROOM), refusal(9), "a take from a short store");
+    run_refused(2 * TIGHT - 1, 9);
+    run_refused(2 * TIGHT + 1, 9);
     REFUSED(stage_take(&receiver, store, 2 * TIGHT, out, ROOM), STAGE_WAITING, "an empty queue");
 
     check(stage_data(&receiver, 0, packet, 500, store, 2 * TIGHT) == 0, "the first packet");
@@ -165,6 +199,9 @@ static void refusals(void)
     store[0] = 0;
     store[2] = 4;
     REFUSED(stage_take(&receiver, store, 2 * TIGHT, out, ROOM), refusal(9), "a length that lies");
+    store[2] = 1;
+    store[503] = 2;
+    check(answers(stage_takes(&receiver, store, 2 * TIGHT, out, ROOM, log, 2), refusal(9), 1, 500), "a run up to an item of no kind");
 }
 
 int main(void)

@@ -2,6 +2,7 @@
 
 use crate::paper::Sender;
 use crate::stage::Receiver;
+use crate::taking::StageRun;
 
 extern "C" {
     fn stripes_write_marker(line: u32, round: u32, counter: u32, out: *mut u8, out_len: usize) -> u32;
@@ -18,7 +19,7 @@ extern "C" {
     fn stage_data(receiver: *mut Receiver, line: u32, bytes: *const u8, len: usize, store: *mut u8, store_len: usize) -> u32;
     fn stage_marker(receiver: *mut Receiver, line: u32, bytes: *const u8, len: usize, store: *mut u8, store_len: usize) -> u32;
     fn stage_take(receiver: *mut Receiver, store: *const u8, store_len: usize, out: *mut u8, out_len: usize) -> u64;
-    fn stage_takes(receiver: *mut Receiver, store: *const u8, store_len: usize, out: *mut u8, out_len: usize, log: *mut u64, log_len: usize) -> usize;
+    fn stage_takes(receiver: *mut Receiver, store: *const u8, store_len: usize, out: *mut u8, out_len: usize, log: *mut u64, log_len: usize) -> StageRun;
 }
 
 pub fn write_marker(line: u32, round: u32, counter: u32, out: &mut [u8]) -> u32 {
@@ -73,6 +74,6 @@ pub fn take(receiver: &mut Receiver, store: &[u8], out: &mut [u8]) -> u64 {
     unsafe { stage_take(receiver, store.as_ptr(), store.len(), out.as_mut_ptr(), out.len()) }
 }
 
-pub fn takes(receiver: &mut Receiver, store: &[u8], out: &mut [u8], log: &mut [u64]) -> usize {
+pub fn takes(receiver: &mut Receiver, store: &[u8], out: &mut [u8], log: &mut [u64]) -> StageRun {
     unsafe { stage_takes(receiver, store.as_ptr(), store.len(), out.as_mut_ptr(), out.len(), log.as_mut_ptr(), log.len()) }
 }

@@ -5,6 +5,7 @@ use crate::bench::{plan, row, timed, Range, LINES, RANGES, TURNS};
 use crate::chance::Chance;
 use crate::paper::Sender;
 use crate::stage::Receiver;
+use crate::taking::StageRun;
 use crate::{archive, plain};
 use std::hint::black_box;
 
@@ -12,7 +13,7 @@ use std::hint::black_box;
 const SIZE: usize = 65_536;
 const RINGS: usize = 128;
 
-type Takes = fn(&mut Receiver, &[u8], &mut [u8], &mut [u64]) -> usize;
+type Takes = fn(&mut Receiver, &[u8], &mut [u8], &mut [u64]) -> StageRun;
 
 /// A receiver whose rings are full.
 struct Stored {
@@ -42,13 +43,13 @@ struct Desk {
     store: Vec<u8>,
     out: Vec<u8>,
     log: Vec<u64>,
-    done: usize,
+    run: StageRun,
 }
 
 impl Desk {
     fn new(lines: usize) -> Desk {
         let bytes = || vec![0; lines * SIZE];
-        Desk { receiver: Receiver::default(), store: bytes(), out: bytes(), log: Vec::new(), done: 0 }
+        Desk { receiver: Receiver::default(), store: bytes(), out: bytes(), log: Vec::new(), run: StageRun { why: 0, taken: 0, bytes: 0 } }
     }
 
     /// The session laid out anew, output and log cleared: each side finds the same, in memory and in the caches.
@@ -61,14 +62,14 @@ impl Desk {
     }
 
     fn drain(&mut self, takes: Takes) {
-        self.done = takes(&mut self.receiver, &self.store, &mut self.out, &mut self.log);
+        self.run = takes(&mut self.receiver, &self.store, &mut self.out, &mut self.log);
     }
 
     /// The nanoseconds of one run through a stored session, and its takes.
     fn time(&mut self, stored: &Stored, takes: Takes) -> Spent {
         self.lay_out(stored);
         let time = timed(|| black_box(&mut *self).drain(takes));
-        Spent { time, takes: black_box(&*self).done as f64 }
+        Spent { time, takes: black_box(&*self).run.taken as f64 }
     }
 }
 
@@ -100,26 +101,25 @@ fn stored(seed: usize, lines: usize, range: Range) -> Stored {
     let mut packet = (0, Vec::new());
     fill(&mut sender, &mut stored, &mut packet, chance, range);
     let mut log = vec![0; stored.items];
-    let done = stored.receiver.takes(&stored.store, &mut vec![0; lines * SIZE], &mut log);
-    stored.items -= done;
+    stored.items -= stored.receiver.takes(&stored.store, &mut vec![0; lines * SIZE], &mut log).taken;
     fill(&mut sender, &mut stored, &mut packet, chance, range);
     stored
 }
 
 /// The archive's takes, called one by one.
-fn one_by_one(receiver: &mut Receiver, store: &[u8], out: &mut [u8], log: &mut [u64]) -> usize {
-    let mut written = 0;
-    for (done, place) in log.iter_mut().enumerate() {
-        let word = archive::take(receiver, store, &mut out[written..]);
+fn one_by_one(receiver: &mut Receiver, store: &[u8], out: &mut [u8], log: &mut [u64]) -> StageRun {
+    let mut bytes = 0;
+    for (taken, place) in log.iter_mut().enumerate() {
+        let word = archive::take(receiver, store, &mut out[bytes..]);
         if word & 3 == 3 {
-            return done;
+            return StageRun { why: word, taken, bytes };
         }
         if word & 3 == 0 {
-            written += (word / 64) as usize;
+            bytes += (word / 64) as usize;
         }
         *place = word;
     }
-    log.len()
+    StageRun { why: 0, taken: log.len(), bytes }
 }
 
 /// Every side must leave the same state, store, output and log.
@@ -130,7 +130,7 @@ fn check(stored: &Stored, lines: usize, sides: [Takes; 3]) {
         desk.drain(takes);
         desk
     });
-    assert!(desks[0].done > 0 && desks.iter().all(|desk| *desk == desks[0]), "the sides leave the same");
+    assert!(desks[0].run.taken > 0 && desks.iter().all(|desk| *desk == desks[0]), "the sides leave the same");
 }
 
 /// One turn: every session by every side. Nanoseconds a take, for each side.

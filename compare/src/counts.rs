@@ -34,6 +34,7 @@ const WANTED: &[(&str, &[&str])] = &[
     ("in them, bad markers", &["cut", "byte put in", "byte changed", "overlong number", "byte taken out", "of another line"]),
     ("in them, takes", &["data", "marker", "marker, bytes missing", "11", "waiting", "8"]),
     ("in them, takes of runs", &["data", "marker", "marker, bytes missing", "11"]),
+    ("in them, runs ended", &["full", "waiting", "8"]),
     ("receivers damaged by", &["one field changed", "store of another length", "noise in a ring", "forged item", "several of these"]),
     (
         "receivers with one field changed, refused with 2",
@@ -45,6 +46,7 @@ const WANTED: &[(&str, &[&str])] = &[
     ("damaged receivers, markers", &["stored", "2", "3", "5", "6", "7", "9"]),
     ("damaged receivers, takes", &TAKES),
     ("damaged receivers, takes of runs", &["data", "marker", "marker, bytes missing", "11"]),
+    ("damaged receivers, runs ended", &["full", "waiting", "2", "8", "9"]),
     ("marker records that came", &RECORDS),
     ("texts for stripes", &["whole", "damaged", "refused somewhere"]),
     ("recorded steps", &["lines compared"]),
@@ -98,6 +100,11 @@ impl Counts {
     /// A take's word.
     pub fn word(&mut self, group: &'static str, word: u64) {
         self.count(group, take_name(word));
+    }
+
+    /// Why a run of takes ended.
+    pub fn run(&mut self, group: &'static str, why: u64) {
+        self.count(group, if why == 0 { "full" } else { take_name(why) });
     }
 
     /// One line a group.

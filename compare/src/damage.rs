@@ -104,6 +104,11 @@ fn output(pair: &Pair, chance: &mut Chance) -> Vec<u8> {
     chance.bytes(length)
 }
 
+/// The number of a refusal that a word tells, else 0.
+fn refused(word: u64) -> u64 {
+    if word & 3 == 3 { word / 64 } else { 0 }
+}
+
 /// One call. Answers its number where it is refused, else 0.
 fn call(pair: &mut Pair, damage: &Damage, chance: &mut Chance, counts: &mut Counts) -> u64 {
     let line = if chance.one_in(3) { chance.between(0, 17) as usize } else { some_line(&pair.receiver, chance) };
@@ -122,9 +127,10 @@ fn call(pair: &mut Pair, damage: &Damage, chance: &mut Chance, counts: &mut Coun
         }
         2 => {
             let most = chance.between(0, 6);
-            let (done, _, log) = pair.takes(&output(pair, chance), &chance.words(most));
-            log[..done].iter().for_each(|word| counts.word("damaged receivers, takes of runs", *word));
-            0
+            let (run, _, log) = pair.takes(&output(pair, chance), &chance.words(most));
+            log[..run.taken].iter().for_each(|word| counts.word("damaged receivers, takes of runs", *word));
+            counts.run("damaged receivers, runs ended", run.why);
+            refused(run.why)
         }
         _ => {
             let (word, _) = pair.take(&output(pair, chance));
@@ -132,7 +138,7 @@ fn call(pair: &mut Pair, damage: &Damage, chance: &mut Chance, counts: &mut Coun
             if damage.kind == "noise in a ring" {
                 counts.count("noise in a ring, takes", take_name(word));
             }
-            if word & 3 == 3 { word / 64 } else { 0 }
+            refused(word)
         }
     }
 }

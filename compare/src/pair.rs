@@ -4,6 +4,7 @@
 use crate::cases::differs;
 use crate::paper::Plan;
 use crate::stage::{Receiver, Rings, Turns};
+use crate::taking::StageRun;
 use crate::{plain, proved};
 
 const BEHIND: usize = 8;
@@ -44,13 +45,13 @@ pub fn longer<T: Copy>(before: &[T], behind: T) -> Vec<T> {
     before.iter().copied().chain([behind; BEHIND]).collect()
 }
 
-/// How many takes a run did, and output and log as it leaves them, with what lies behind them.
-type Run = (usize, Vec<u8>, Vec<u64>);
+/// What a run answers, and output and log as it leaves them, with what lies behind them.
+type Run = (StageRun, Vec<u8>, Vec<u64>);
 
-fn run(takes: impl Fn(&mut Receiver, &[u8], &mut [u8], &mut [u64]) -> usize, state: &mut Receiver, store: &[u8], out: &[u8], log: &[u64]) -> Run {
+fn run(takes: impl Fn(&mut Receiver, &[u8], &mut [u8], &mut [u64]) -> StageRun, state: &mut Receiver, store: &[u8], out: &[u8], log: &[u64]) -> Run {
     let (mut output, mut words) = (longer(out, 0xEE), longer(log, u64::MAX));
-    let done = takes(state, store, &mut output[..out.len()], &mut words[..log.len()]);
-    (done, output, words)
+    let answer = takes(state, store, &mut output[..out.len()], &mut words[..log.len()]);
+    (answer, output, words)
 }
 
 impl Pair {
@@ -109,7 +110,7 @@ impl Pair {
             differs("a run's output and log", format!("{before:?}: from {from:?} on"));
         }
         if plain != second || state != self.second {
-            differs("the benchmark's loop", format!("{before:?}: {} {state:?} and {} {:?}", plain.0, second.0, self.second));
+            differs("the benchmark's loop", format!("{before:?}: {:?} {state:?} and {:?} {:?}", plain.0, second.0, self.second));
         }
         proved.1.truncate(out.len());
         proved.2.truncate(log.len());

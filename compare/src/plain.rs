@@ -1,7 +1,9 @@
 //! The take loop as one would write it in Rust for speed, with the same answers: state and store are checked once for a run, each item by
 //! itself. The benchmark times it beside the archive's.
 
+use crate::paper::{OUTPUT, STORE};
 use crate::stage::Receiver;
+use crate::taking::StageRun;
 
 /// A line's bytes in the store, from its head on.
 struct Ring<'a> {
@@ -65,10 +67,24 @@ fn next_line(receiver: &mut Receiver, line: usize) -> usize {
     nearest
 }
 
-/// Takes the bytes of a data item to the output. Answers its word and whether the line's round has risen.
-fn take_data(receiver: &mut Receiver, line: usize, ring: &Ring, out: &mut [u8]) -> (u64, bool) {
-    ring.copy(3, out);
-    let (counter, length) = (receiver.turns.counters[line], out.len() as u32);
+/// What a take has done: its word, the bytes that it wrote, and whether the line's round has risen.
+struct Step {
+    word: u64,
+    bytes: usize,
+    raised: bool,
+}
+
+fn refused(number: u32) -> u64 {
+    3 + 64 * u64::from(number)
+}
+
+/// Takes the bytes of a data item to the output, where it is one and has room.
+fn take_data(receiver: &mut Receiver, line: usize, ring: &Ring, bytes: usize, out: &mut [u8]) -> Result<Step, u64> {
+    if !(1..=receiver.plan.max as usize).contains(&bytes) {
+        return Err(refused(STORE));
+    }
+    ring.copy(3, out.get_mut(..bytes).ok_or(refused(OUTPUT))?);
+    let (counter, length) = (receiver.turns.counters[line], bytes as u32);
     let raised = counter <= length;
     if raised {
         receiver.turns.counters[line] = counter + receiver.plan.quanta[line] - length;
@@ -76,11 +92,11 @@ fn take_data(receiver: &mut Receiver, line: usize, ring: &Ring, out: &mut [u8]) 
     } else {
         receiver.turns.counters[line] = counter - length;
     }
-    (4 * line as u64 + 64 * u64::from(length), raised)
+    Ok(Step { word: 4 * line as u64 + 64 * u64::from(length), bytes, raised })
 }
 
 /// Applies a marker item, where it is one.
-fn take_marker(receiver: &mut Receiver, line: usize, ring: &Ring, length: usize) -> Option<(u64, bool)> {
+fn take_marker(receiver: &mut Receiver, line: usize, ring: &Ring, length: usize) -> Option<Step> {
     let mut buffer = [0; 15];
     let bytes = buffer.get_mut(..length)?;
     ring.copy(3, bytes);
@@ -91,50 +107,54 @@ fn take_marker(receiver: &mut Receiver, line: usize, ring: &Ring, length: usize)
     }
     let ahead = round.wrapping_sub(receiver.turns.rounds[line]);
     if ahead >= 1 << 31 || ahead == 0 && counter > receiver.turns.counters[line] {
-        return Some((2 + 4 * line as u64, false));
+        return Some(Step { word: 2 + 4 * line as u64, bytes: 0, raised: false });
     }
     let missing = u64::from(ahead) * u64::from(quantum) + u64::from(receiver.turns.counters[line]) - u64::from(counter);
     receiver.turns.rounds[line] = round;
     receiver.turns.counters[line] = counter;
-    Some((1 + 4 * line as u64 + 64 * missing, ahead > 0))
+    Some(Step { word: 1 + 4 * line as u64 + 64 * missing, bytes: 0, raised: ahead > 0 })
+}
+
+/// One take from a line; else the word of the take that takes nothing.
+fn take(receiver: &mut Receiver, line: usize, store: &[u8], out: &mut [u8]) -> Result<Step, u64> {
+    let (size, used) = (receiver.rings.size as usize, receiver.rings.used[line] as usize);
+    if used == 0 {
+        return Err(3 + 4 * line as u64);
+    }
+    if used < 3 {
+        return Err(refused(STORE));
+    }
+    let ring = Ring { bytes: &store[line * size..][..size], head: receiver.rings.heads[line] as usize };
+    let length = usize::from(u16::from_le_bytes([ring.byte(1), ring.byte(2)]));
+    if 3 + length > used {
+        return Err(refused(STORE));
+    }
+    let step = match ring.byte(0) {
+        0 => take_data(receiver, line, &ring, length, out)?,
+        1 => take_marker(receiver, line, &ring, length).ok_or(refused(STORE))?,
+        _ => return Err(refused(STORE)),
+    };
+    receiver.rings.heads[line] = ring.place(3 + length) as u32;
+    receiver.rings.used[line] = (used - 3 - length) as u32;
+    Ok(step)
 }
 
 /// As the archive's `stage_takes`.
-pub fn takes(receiver: &mut Receiver, store: &[u8], out: &mut [u8], log: &mut [u64]) -> usize {
-    if log.is_empty() || receiver.refusal(store).is_some() {
-        return 0;
+pub fn takes(receiver: &mut Receiver, store: &[u8], out: &mut [u8], log: &mut [u64]) -> StageRun {
+    if let Some(number) = receiver.refusal(store) {
+        return StageRun { why: refused(number), taken: 0, bytes: 0 };
     }
-    let (size, max) = (receiver.rings.size as usize, receiver.plan.max as usize);
-    let mut line = receiver.current();
-    let mut written = 0;
-    for (done, word) in log.iter_mut().enumerate() {
-        let used = receiver.rings.used[line] as usize;
-        if used < 3 {
-            return done;
-        }
-        let ring = Ring { bytes: &store[line * size..][..size], head: receiver.rings.heads[line] as usize };
-        let length = usize::from(u16::from_le_bytes([ring.byte(1), ring.byte(2)]));
-        if 3 + length > used {
-            return done;
-        }
-        let taken = match ring.byte(0) {
-            0 if (1..=max).contains(&length) && length <= out.len() - written => {
-                let packet = &mut out[written..written + length];
-                written += length;
-                Some(take_data(receiver, line, &ring, packet))
-            }
-            1 => take_marker(receiver, line, &ring, length),
-            _ => None,
+    let (mut line, mut bytes) = (receiver.current(), 0);
+    for (taken, word) in log.iter_mut().enumerate() {
+        let step = match take(receiver, line, store, &mut out[bytes..]) {
+            Ok(step) => step,
+            Err(why) => return StageRun { why, taken, bytes },
         };
-        let Some((answer, raised)) = taken else {
-            return done;
-        };
-        *word = answer;
-        receiver.rings.heads[line] = ring.place(3 + length) as u32;
-        receiver.rings.used[line] = (used - 3 - length) as u32;
-        if raised {
+        *word = step.word;
+        bytes += step.bytes;
+        if step.raised {
             line = next_line(receiver, line);
         }
     }
-    log.len()
+    StageRun { why: 0, taken: log.len(), bytes }
 }

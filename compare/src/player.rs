@@ -22,6 +22,7 @@
 
 use crate::paper::{check_plan, copy_plan, read, record, Plan, Sender, REFUSED};
 use crate::stage::Receiver;
+use crate::taking::StageRun;
 
 pub const OPEN: u32 = 0;
 pub const REOPEN: u32 = 1;
@@ -175,7 +176,7 @@ pub trait Calls {
     fn data(&self, receiver: &mut Receiver, line: u32, bytes: &[u8], store: &mut [u8]) -> u32;
     fn marker(&self, receiver: &mut Receiver, line: u32, bytes: &[u8], store: &mut [u8]) -> u32;
     fn take(&self, receiver: &mut Receiver, store: &[u8], out: &mut [u8]) -> u64;
-    fn takes(&self, receiver: &mut Receiver, store: &[u8], out: &mut [u8], log: &mut [u64]) -> usize;
+    fn takes(&self, receiver: &mut Receiver, store: &[u8], out: &mut [u8], log: &mut [u64]) -> StageRun;
 }
 
 /// The second program's.
@@ -226,7 +227,7 @@ impl Calls for Second {
         receiver.take(store, out).word()
     }
 
-    fn takes(&self, receiver: &mut Receiver, store: &[u8], out: &mut [u8], log: &mut [u64]) -> usize {
+    fn takes(&self, receiver: &mut Receiver, store: &[u8], out: &mut [u8], log: &mut [u64]) -> StageRun {
         receiver.takes(store, out, log)
     }
 }
@@ -275,6 +276,11 @@ fn taken(word: u64) -> String {
     }
 }
 
+/// What a run's word says of how it ended.
+fn ended(why: u64) -> String {
+    if why == 0 { said("full", 0, 0) } else { taken(why) }
+}
+
 /// Both ends, the store and how much of it is lent, and the output of the last step.
 pub struct World {
     pub sender: Sender,
@@ -296,14 +302,8 @@ impl World {
 
     fn run(&mut self, calls: &dyn Calls, room: usize, words: usize) -> String {
         let (store, mut log) = (&self.store[..self.lent], vec![u64::from(UNUSED); WORDS]);
-        let done = calls.takes(&mut self.receiver, store, &mut self.out[..room], &mut log[..words]);
-        let bytes = log[..done].iter().filter(|word| *word & 3 == 0).map(|word| word / 64).sum::<u64>() as usize;
-        // why it stopped is what one more take says
-        let ended = match done == words {
-            true => said("full", 0, 0),
-            false => taken(calls.take(&mut self.receiver.clone(), store, &mut self.out.clone()[bytes..room])),
-        };
-        said("takes", done as u64, bytes as u64) + &ended + " " + &digest(log.into_iter())
+        let run = calls.takes(&mut self.receiver, store, &mut self.out[..room], &mut log[..words]);
+        said("takes", run.taken as u64, run.bytes as u64) + &ended(run.why) + " " + &digest(log.into_iter())
     }
 
     /// What a call answers that is lent an output.

@@ -3,6 +3,7 @@
 use crate::archive;
 use crate::paper::Sender;
 use crate::stage::Receiver;
+use crate::taking::StageRun;
 use std::sync::atomic::{AtomicU64, Ordering};
 
 const NAMES: [&str; 14] = [
@@ -99,7 +100,7 @@ pub fn take(receiver: &mut Receiver, store: &[u8], out: &mut [u8]) -> u64 {
     archive::take(receiver, store, out)
 }
 
-pub fn takes(receiver: &mut Receiver, store: &[u8], out: &mut [u8], log: &mut [u64]) -> usize {
+pub fn takes(receiver: &mut Receiver, store: &[u8], out: &mut [u8], log: &mut [u64]) -> StageRun {
     count("stage_takes");
     archive::takes(receiver, store, out, log)
 }

@@ -174,7 +174,8 @@ fn receiver_refused_with(number: u32, making: &mut Making) {
     making.expect(&answer, TAKE, [500, 0, 0], EMPTY);
     making.expect(&answer, TAKE, [0; 3], EMPTY);
     run(making, &format!("takes 0 0 {answer}"), 500, 4);
-    run(making, "takes 0 0 full", 500, 0);
+    // before the log is looked at
+    run(making, &format!("takes 0 0 {answer}"), 500, 0);
 }
 
 /// The receiver: closed, one figure out of range, a store of another length.

@@ -7,6 +7,7 @@ use crate::paper::Sender;
 use crate::player::{printed, unseen, Calls, Second};
 use crate::proved;
 use crate::stage::Receiver;
+use crate::taking::StageRun;
 
 const INPUT: &[u8] = include_bytes!("../../crates/player/stdin");
 const OUTPUT: &str = include_str!("../../crates/player/stdout");
@@ -51,7 +52,7 @@ impl Calls for Proved {
         proved::take(receiver, store, out)
     }
 
-    fn takes(&self, receiver: &mut Receiver, store: &[u8], out: &mut [u8], log: &mut [u64]) -> usize {
+    fn takes(&self, receiver: &mut Receiver, store: &[u8], out: &mut [u8], log: &mut [u64]) -> StageRun {
         proved::takes(receiver, store, out, log)
     }
 }

@@ -8,7 +8,7 @@ use crate::pair::{opened, Pair};
 use crate::paper::record;
 use crate::positions::FarEnd;
 use crate::sending::{highest, Booth, LOWEST};
-use crate::taking::Outcome;
+use crate::taking::{Outcome, StageRun};
 use std::collections::VecDeque;
 
 const BOOTH: &str = "in them, at the booth";
@@ -273,11 +273,12 @@ impl Session {
 
     pub fn run(&mut self, room: usize, chance: &mut Chance, counts: &mut Counts) {
         let most = chance.between(0, 12);
-        let (done, out, log) = self.pair.takes(&chance.bytes(room), &chance.words(most));
-        let (mut written, mut taken) = (0, Vec::new());
+        let (run, out, log) = self.pair.takes(&chance.bytes(room), &chance.words(most));
+        let (mut why, mut written, mut taken) = (0, 0, Vec::new());
         while taken.len() < log.len() {
             let (outcome, bytes) = self.far.take(room - written);
             if !outcome.is_taken() {
+                why = outcome.word();
                 break;
             }
             written += bytes.len();
@@ -285,7 +286,9 @@ impl Session {
         }
         let words: Vec<u64> = taken.iter().map(|(outcome, _): &(Outcome, _)| outcome.word()).collect();
         let all: Vec<u8> = taken.iter().flat_map(|(_, bytes)| bytes.clone()).collect();
-        self.hold("a run of takes", (&log[..done], &out[..written]), (&words[..], &all[..]));
+        let expected = StageRun { why, taken: words.len(), bytes: written };
+        self.hold("a run of takes", (run, &log[..run.taken], &out[..run.bytes]), (expected, &words[..], &all[..]));
+        counts.run("in them, runs ended", run.why);
         for (outcome, bytes) in &taken {
             counts.word("in them, takes of runs", outcome.word());
             self.taken(outcome.word(), bytes);

@@ -32,6 +32,16 @@ impl Outcome {
     }
 }
 
+/// What a run of takes comes to, as the archive answers it: 0 where the log is full, or else the word of the outcome that stopped it; how many takes
+/// there were, and how many bytes they wrote.
+#[repr(C)]
+#[derive(Clone, Copy, Debug, PartialEq, Eq)]
+pub struct StageRun {
+    pub why: u64,
+    pub taken: usize,
+    pub bytes: usize,
+}
+
 impl Receiver {
     pub fn take(&mut self, store: &[u8], out: &mut [u8]) -> Outcome {
         if let Some(number) = self.refusal(store) {
@@ -91,19 +101,23 @@ impl Receiver {
         }
     }
 
-    /// Takes until one takes nothing or the log is full; each packet goes behind the ones before it.
-    pub fn takes(&mut self, store: &[u8], out: &mut [u8], log: &mut [u64]) -> usize {
-        let mut written = 0;
-        for done in 0..log.len() {
-            let outcome = self.take(store, &mut out[written..]);
+    /// Takes until one takes nothing or the log is full; each packet goes behind the ones before it. State and store are judged before the log is
+    /// looked at.
+    pub fn takes(&mut self, store: &[u8], out: &mut [u8], log: &mut [u64]) -> StageRun {
+        if let Some(number) = self.refusal(store) {
+            return StageRun { why: Outcome::Refused(number).word(), taken: 0, bytes: 0 };
+        }
+        let mut bytes = 0;
+        for taken in 0..log.len() {
+            let outcome = self.take(store, &mut out[bytes..]);
             if !outcome.is_taken() {
-                return done;
+                return StageRun { why: outcome.word(), taken, bytes };
             }
             if let Outcome::Data { length, .. } = outcome {
-                written += length;
+                bytes += length;
             }
-            log[done] = outcome.word();
+            log[taken] = outcome.word();
         }
-        log.len()
+        StageRun { why: 0, taken: log.len(), bytes }
     }
 }

@@ -21,16 +21,17 @@ use Rattle.receiving.specs.declared.Turns.{Turns}
 use Rattle.receiving.specs.Receiver.{turnOf, receiverOk, storeFits}
 use Rattle.receiving.specs.Arriving.{Arrival, placeOf, arrival, roomNumber}
 use Rattle.receiving.specs.Stage.{Stage, stage}
+use Rattle.receiving.proofs.Stages.{Sound}
 use Rattle.receiving.proofs.Storing.{Lands, left, data-lands, marker-lands, landed-holds, landed-sound, landed-plan, landed-turns}
 use Rattle.receiving.proofs.Arrivals.{data-stored, marker-stored}
 use Rattle.receiving.proofs.Valid.{data-valid, marker-valid}
 use Rattle.bundle.specs.Events.{Parcel, packet, marker, Event, stored, turned-away, asEntry}
-use Rattle.bundle.specs.Worlds.{World, arrives, landing, landSeen, arriveSeen, seen, landed, roadsAfter, call}
+use Rattle.bundle.specs.Worlds.{World, arrives, landing, landSeen, arriveSeen, seen, landed, call}
 use Rattle.bundle.specs.Log.{stepsOf, markOf, parcelOf, entryOf}
 use Rattle.bundle.specs.Words.{bytesOf}
-use Rattle.bundle.proofs.Meeting.{theirs, Fits, AllFit, Shows, Meets}
+use Rattle.bundle.proofs.Meeting.{theirs, Fits, AllFit, Shows, Far, Roads}
 use Rattle.bundle.proofs.Marks.{mark, mark-read}
-use Rattle.bundle.proofs.Roads.{fit-append, meets, left-road, lose-line}
+use Rattle.bundle.proofs.Roads.{fit-append}
 
 -- ---- a parcel, packet or marker
 
@@ -47,7 +48,7 @@ abbrev got : ℕ → Bool → Item → ℕ → List Item
 got i ok x j = cond (eqb i j && ok) (x ∷ []) []
 
 -- an item x, the oldest under way on line i, comes
-module _ (p : Plan) (w : World) (s : State) (m : Meets p w s) (i : ℕ) (x : Item) (rest : List Item) (e : s .line i .road ≡ x ∷ rest) where
+module _ (p : Plan) (w : World) (s : State) (m : Far p (w .receiver) (w .store) s) (i : ℕ) (x : Item) (one : Fits p x) where
   abbrev was : Stage
   was = stage (w .receiver) (w .store)
 
@@ -76,14 +77,14 @@ module _ (p : Plan) (w : World) (s : State) (m : Meets p w s) (i : ℕ) (x : Ite
   got-entries j false q u = refl
 
   got-fit : (t : Bool) → AllFit p (cond t (x ∷ []) [])
-  got-fit true = let all : AllFit p (x ∷ rest) = rw e at (m .on-road i) in (all .0, tt)
+  got-fit true = (one, tt)
   got-fit false = tt
 
   -- the far end, by what its queues hold now
   far : (v : ℕ → ℕ) (items : ℕ → List Item) → v ≡ positions s → ((j : ℕ) → items j ≡ s .line j .store ++ got i ok x j)
       → Shows p (left a) v items
   far v items place queues =
-      let f = m .far in
+      let f = m in
       let lines : p .lines ≡ w .receiver .plan .lines = ap (λ (p : Plan). p .lines) (sym (f .plan)) in
       let turns = landed-turns was (f .sound) i kind bytes a lands in
       rw place (record {
@@ -97,11 +98,9 @@ module _ (p : Plan) (w : World) (s : State) (m : Meets p w s) (i : ℕ) (x : Ite
         fit = λ j l. rw (queues j) (fit-append p (s .line j .store) (got i ok x j) (f .fit j l) (got-fit (eqb i j && ok)));
       })
 
-  abbrev next : Event → World
-  next e = record { sender = w .sender; receiver = a .arrived .next; store = a .store; road = roadsAfter e (w .road) }
-
-  comes : Meets p (next (landSeen i parcel (a .arrived .number))) (run (theirs p) s (stepsOf (landSeen i parcel (a .arrived .number))))
-  comes = go ok refl
+  comes : (rest : List Item) → s .line i .road ≡ x ∷ rest
+      → Far p (a .arrived .next) (a .store) (run (theirs p) s (stepsOf (landSeen i parcel (a .arrived .number))))
+  comes rest e = go ok refl
     where
       seen-as : Bool → Event
       seen-as t = cond t (stored i parcel) (turned-away i parcel (a .arrived .number))
@@ -110,19 +109,17 @@ module _ (p : Plan) (w : World) (s : State) (m : Meets p w s) (i : ℕ) (x : Ite
       none true = refl
       none false = refl
 
-      go : (t : Bool) → ok ≡ t → Meets p (next (seen-as t)) (run (theirs p) s (stepsOf (seen-as t)))
+      go : (t : Bool) → ok ≡ t → Far p (a .arrived .next) (a .store) (run (theirs p) s (stepsOf (seen-as t)))
       go true q =
           let place = fun-ext (at-field (λ l. l .position) i arrived (s .line) arrived-position) in
-          let queues =
-          at-all (λ j l. l .store ≡ s .line j .store ++ got i ok x j) i arrived (s .line)
+          far _ _ place
+          (at-all (λ j l. l .store ≡ s .line j .store ++ got i ok x j) i arrived (s .line)
           (rw (eq-eqb i i refl, q) (ap (λ (road : List Item). arriveOf road (s .line i) .store) e))
-          (λ j apart. rw (ne-eqb i j apart, append-nil) refl) in
-          meets p _ _ (far _ _ place queues)
-          (left-road p w s m i arrived x rest e (ap (λ (road : List Item). arriveOf road (s .line i) .road) e))
+          (λ j apart. rw (ne-eqb i j apart, append-nil) refl))
       go false q =
           let place = fun-ext (at-field (λ l. l .position) i dropped (s .line) dropped-position) in
           let queues = at-field (λ l. l .store) i dropped (s .line) dropped-store in
-          meets p _ _ (far _ _ place (λ j. rw (q, none (eqb i j), append-nil) (queues j))) (lose-line p w s m i x rest e)
+          far _ _ place (λ j. rw (q, none (eqb i j), append-nil) (queues j))
 
 -- what passes every check is stored where there is room
 room-stored : (r : Receiver) (i kind : ℕ) (b store : List ℕ) → itemHead + length b ≤ r .rings .size - placeOf r i .used
@@ -130,53 +127,46 @@ room-stored : (r : Receiver) (i kind : ℕ) (b store : List ℕ) → itemHead + 
 unfolding arrival
 room-stored r i kind b store has = simp (le-leb (itemHead + length b) (r .rings .size - placeOf r i .used) has)
 
-module _ (p : Plan) (w : World) (s : State) (m : Meets p w s) where
-  pub arrive-meets : (i : ℕ) → Meets p (call w (arrives i)) (run (theirs p) s (stepsOf (seen w (arrives i))))
-  arrive-meets i = subst After (sym (m .roads i)) (go (s .line i .road) refl)
+module _ (p : Plan) (w : World) (s : State) (roads : Roads p (w .road) (s .line)) where
+  pub arrive-far : Far p (w .receiver) (w .store) s → (i : ℕ)
+      → Far p (call w (arrives i) .receiver) (call w (arrives i) .store) (run (theirs p) s (stepsOf (seen w (arrives i))))
+  arrive-far m i = subst After (sym (roads .same i)) (go (s .line i .road) refl)
     where
       After : List Parcel → Type 0
-      After road =
-          Meets p
-          (record { sender = w .sender; receiver = landed w i road .receiver; store = landed w i road .store; road = roadsAfter (arriveSeen w i road) (w .road) })
-          (run (theirs p) s (stepsOf (arriveSeen w i road)))
+      After road = Far p (landed w i road .receiver) (landed w i road .store) (run (theirs p) s (stepsOf (arriveSeen w i road)))
 
       go : (road : List Item) → s .line i .road ≡ road → After (map (parcelOf p i) road)
       go [] e = m
-      go (x ∷ rest) e = comes p w s m i x rest e
+      go (x ∷ rest) e = let all : AllFit p (x ∷ rest) = rw e at (roads .fit i) in comes p w s m i x (all .0) rest e
 
   -- a parcel that is under way is stored where its ring has room
-  pub land-stored : planOk p ≡ true → (i : ℕ) (x : Parcel) (rest : List Parcel) → w .road i ≡ x ∷ rest
-      → itemHead + length (bytesOf x) ≤ w .receiver .rings .size - placeOf (w .receiver) i .used → landing (w .receiver) (w .store) i x .arrived .number ≡ 0
-  land-stored good i x rest e free = go (s .line i .road) refl (sym (m .roads i) ∙ e)
+  pub land-stored : planOk p ≡ true → Sound (stage (w .receiver) (w .store)) → w .receiver .plan ≡ p → (i : ℕ) (x : Parcel) (rest : List Parcel)
+      → w .road i ≡ x ∷ rest → itemHead + length (bytesOf x) ≤ w .receiver .rings .size - placeOf (w .receiver) i .used
+      → landing (w .receiver) (w .store) i x .arrived .number ≡ 0
+  land-stored good sound plan i x rest e free = go (s .line i .road) refl (sym (roads .same i) ∙ e)
     where
       r : Receiver
       r = w .receiver
 
-      plan : r .plan ≡ p
-      plan = m .far .plan
-
-      valid : receiverOk r ≡ true
-      valid = m .far .sound .good
-
       whole : storeFits r (w .store) ≡ true
-      whole = eq-eqb _ _ (m .far .sound .fits)
+      whole = eq-eqb _ _ (sound .fits)
 
       Stored : Parcel → Type 0
       Stored x = itemHead + length (bytesOf x) ≤ r .rings .size - placeOf r i .used → landing r (w .store) i x .arrived .number ≡ 0
 
       on : (y : Item) → Fits p y → i < p .lines → Stored (parcelOf p i y)
       on (T.packet k b) fits line has =
-          let stored = data-stored r i b (w .store) valid whole (rw plan line) (fits .0) (rw plan (fits .1)) in
+          let stored = data-stored r i b (w .store) (sound .good) whole (rw plan line) (fits .0) (rw plan (fits .1)) in
           ap (λ (a : Arrival). a .arrived .number) (sym stored) ∙ room-stored r i 0 b (w .store) has
       on (T.marker k n) fits line has =
           let b = markOf p i n in
-          let stored = marker-stored r i b (w .store) valid whole (rw plan line) (mark p good i line n) (rw plan (mark-read p good i line n)) in
+          let stored = marker-stored r i b (w .store) (sound .good) whole (rw plan line) (mark p good i line n) (rw plan (mark-read p good i line n)) in
           ap (λ (a : Arrival). a .arrived .number) (sym stored) ∙ room-stored r i 1 b (w .store) has
 
       go : (road : List Item) → s .line i .road ≡ road → map (parcelOf p i) road ≡ x ∷ rest → landing r (w .store) i x .arrived .number ≡ 0
       go [] q h = absurd (nil≢cons h)
       go (y ∷ more) q h =
-          let all : AllFit p (y ∷ more) = rw q at (m .on-road i) in
+          let all : AllFit p (y ∷ more) = rw q at (roads .fit i) in
           dite (decLt i (p .lines))
           (λ line. subst Stored (head-eq-of-cons-eq h) (on y (all .0) line) free)
-          (λ off. absurd (cons≢nil (sym q ∙ m .off-road i (omega arith))))
+          (λ off. absurd (cons≢nil (sym q ∙ roads .off i (omega arith))))

@@ -12,6 +12,7 @@ use Rattle.plan.specs.declared.Plan.{Plan}
 use Rattle.plan.specs.Limits.{mostLines}
 use Rattle.plan.specs.Plan.{at, quantum, linePlan, chargeOf, planOk, trimmed}
 use Rattle.plan.proofs.Laws.{trimmed-ok}
+use Rattle.plan.proofs.Ranges.{plan-good}
 use Rattle.marker.specs.Marker.{markerOf, markerBytes}
 use Rattle.theory.specs.Sending as S
 use Rattle.theory.specs.FirstForm.{Figures, firstDue, firstAfter}
@@ -215,4 +216,4 @@ module _ (p : Plan) (good : planOk p ≡ true) (sixteen : length (p .quanta) ≡
     }
 
 pub every-history : EveryHistory
-every-history p good sixteen w is-open h = keeps p good sixteen w is-open h
+every-history p range sixteen w is-open h = keeps p (plan-good p range) sixteen w is-open h

@@ -7,6 +7,7 @@ pub mod Currents
 pub mod Meeting
 pub mod Opening
 pub mod Roads
+pub mod Shown
 pub mod Arrivals
 pub mod Moves
 pub mod Takes

@@ -1,5 +1,5 @@
--- What a world shows of the system's state: the far end its positions and queues, the roads what is under way. (The sender's part is the sender's
--- own promise.) Assumes nothing.
+-- What a world shows of the system's state: the far end its positions and queues, the roads what is under way, each by itself. (The sender's part is
+-- the sender's own promise.) Assumes nothing.
 use Prim.Native.Nat.{ℕ, _≤_, _<_}
 use mathlib.Core.List.{List, [], _∷_, map}
 use mathlib.Core.Path.{_≡_}
@@ -8,13 +8,14 @@ use Rattle.plan.specs.declared.Plan.{Plan}
 use Rattle.plan.specs.Plan.{quantum}
 use Rattle.theory.specs.Sending.{choose, roundAt, counterAt}
 use Rattle.theory.specs.Sending as S
-use Rattle.theory.specs.System.{Item, packet, marker, State, positions}
+use Rattle.theory.specs.System.{Item, packet, marker, Line, State, positions}
 use Rattle.sending.specs.InTheory.{inTheory}
 use Rattle.receiving.specs.declared.Turn.{Turn}
 use Rattle.receiving.specs.Receiver.{turnOf}
 use Rattle.receiving.specs.Stage.{Stage, stage}
 use Rattle.receiving.proofs.Stages.{Sound, HoldsOn}
-use Rattle.bundle.specs.Worlds.{World}
+use Rattle.receiving.specs.declared.Receiver.{Receiver}
+use Rattle.bundle.specs.Events.{Parcel}
 use Rattle.bundle.specs.Log.{parcelOf, entryOf}
 
 -- a line's turn at a position
@@ -43,9 +44,12 @@ module _ (p : Plan) where
     pub holds : (i : ℕ) → i < p .lines → HoldsOn i s (map (entryOf p i) (items i))
     pub fit : (i : ℕ) → i < p .lines → AllFit (items i)
 
-  pub record Meets (w : World) (s : State) : Type 0 where
-    pub far : Shows (stage (w .receiver) (w .store)) (positions s) (λ i. s .line i .store)
-    pub roads : (i : ℕ) → w .road i ≡ map (parcelOf p i) (s .line i .road)
-    -- only lines of the plan have parcels under way, packets in range
-    pub on-road : (i : ℕ) → AllFit (s .line i .road)
-    pub off-road : (i : ℕ) → p .lines ≤ i → s .line i .road ≡ []
+  -- the far end's part of what a world shows
+  abbrev pub Far : Receiver → List ℕ → State → Type 0
+  Far r store s = Shows (stage r store) (positions s) (λ i. s .line i .store)
+
+  -- and the roads': only lines of the plan have parcels under way, packets in range
+  pub record Roads (road : ℕ → List Parcel) (lines : ℕ → Line) : Type 0 where
+    pub same : (i : ℕ) → road i ≡ map (parcelOf p i) (lines i .road)
+    pub fit : (i : ℕ) → AllFit (lines i .road)
+    pub off : (i : ℕ) → p .lines ≤ i → lines i .road ≡ []

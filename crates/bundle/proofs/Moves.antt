@@ -16,8 +16,7 @@ use Rattle.theory.specs.Sending.{rounds}
 use Rattle.theory.specs.System.{Item, packet, marker, State, positions, current, fetched, step, take}
 use Rattle.theory.specs.System as T
 use Rattle.theory.proofs.Choose.{choose-wins, div-mono}
-use Rattle.theory.proofs.Lines.{fetched-road}
-use Rattle.theory.proofs.Histories.{at-field, at-all}
+use Rattle.theory.proofs.Histories.{at-all}
 use Rattle.receiving.specs.declared.Turn.{Turn}
 use Rattle.receiving.specs.declared.Turns.{Turns}
 use Rattle.receiving.specs.declared.Receiver.{Receiver}
@@ -31,8 +30,8 @@ use Rattle.receiving.proofs.Valid.{take-valid}
 use Rattle.receiving.proofs.Dropping.{taken-holds, taken-sound, taken-plan}
 use Rattle.receiving.proofs.Heads.{empty-waits, head-taken}
 use Rattle.bundle.specs.Worlds.{World}
-use Rattle.bundle.specs.Log.{parcelOf, entryOf}
-use Rattle.bundle.proofs.Meeting.{turnAt, theirs, AllFit, Shows, Meets}
+use Rattle.bundle.specs.Log.{entryOf}
+use Rattle.bundle.proofs.Meeting.{turnAt, theirs, AllFit, Far}
 use Rattle.bundle.proofs.Currents.{Within, line-is, round-is}
 
 -- a take leaves the rest of its queue
@@ -40,7 +39,7 @@ head-goes : (p : Plan) (i : ℕ) (x : Item) (rest : List Item) (l : T.Line) → 
 head-goes p i (packet k b) rest l = refl
 head-goes p i (marker k m) rest l = refl
 
-module _ (p : Plan) (good : planOk p ≡ true) (some : 1 ≤ p .lines) (w : World) (s : State) (m : Meets p w s)
+module _ (p : Plan) (good : planOk p ≡ true) (some : 1 ≤ p .lines) (w : World) (s : State) (m : Far p (w .receiver) (w .store) s)
     (within : Within (theirs p) some (positions s) (rounds (theirs p) (positions s) (current (theirs p) s)))
   where
     abbrev r : Receiver
@@ -60,17 +59,17 @@ module _ (p : Plan) (good : planOk p ≡ true) (some : 1 ≤ p .lines) (w : Worl
     is-one = omega (arith, is-line, in-range p good .few-lines)
 
     round-shown : (i : ℕ) → i < p .lines → roundOf (r .turns) i ≡ turnAt (quantum p i) (positions s i) .round
-    round-shown i l = ap (λ (t : Turn). t .round) (m .far .turns i l)
+    round-shown i l = ap (λ (t : Turn). t .round) (m .turns i l)
 
     current-is : currentLine r ≡ c
     current-is =
-        ap (λ (q : Plan). lineAt (q .lines) (roundOf (r .turns)) (r .turns .round)) (m .far .plan)
-        ∙ line-is (theirs p) some (positions s) (roundOf (r .turns)) (r .turns .round) round-shown (m .far .round) within
+        ap (λ (q : Plan). lineAt (q .lines) (roundOf (r .turns)) (r .turns .round)) (m .plan)
+        ∙ line-is (theirs p) some (positions s) (roundOf (r .turns)) (r .turns .round) round-shown (m .round) within
 
     held : (items : List Item) → s .line c .store ≡ items → HoldsOn (currentLine r) here (map (entryOf p c) items)
     held items e =
         subst (λ (i : ℕ). HoldsOn i here (map (entryOf p c) items)) (sym current-is)
-        (subst (λ (is : List Item). HoldsOn c here (map (entryOf p c) is)) e (m .far .holds c is-line))
+        (subst (λ (is : List Item). HoldsOn c here (map (entryOf p c) is)) e (m .holds c is-line))
 
     -- a take of the item in front, and one that finds none
     pub head-step : (out : List ℕ) (x : Item) (rest : List Item) → s .line c .store ≡ x ∷ rest
@@ -79,30 +78,18 @@ module _ (p : Plan) (good : planOk p ≡ true) (some : 1 ≤ p .lines) (w : Worl
     head-step out x rest e =
         let kind : ℕ = entryOf p c x .kind in
         let bytes : List ℕ = entryOf p c x .bytes in
-        head-taken here (m .far .sound) out (entryOf p c x) (map (entryOf p c) rest) (held (x ∷ rest) e)
+        head-taken here (m .sound) out (entryOf p c x) (map (entryOf p c) rest) (held (x ∷ rest) e)
         ∙ ap (λ (i : ℕ). taken r i (stepOf (linePlan (r .plan) i) (r .rings .size) i (lineOf r i) out (itemOn (linePlan (r .plan) i) i kind bytes))) current-is
-        ∙ ap (λ (q : Plan). taken r c (stepOf (linePlan q c) (r .rings .size) c (lineOf r c) out (itemOn (linePlan q c) c kind bytes))) (m .far .plan)
+        ∙ ap (λ (q : Plan). taken r c (stepOf (linePlan q c) (r .rings .size) c (lineOf r c) out (itemOn (linePlan q c) c kind bytes))) (m .plan)
 
     pub waits : (out : List ℕ) → s .line c .store ≡ []
         → takeOf r (w .store) out ≡ record { result = record { answer = Waiting c; next = r }; out = out }
     waits out e =
-        empty-waits here (m .far .sound) out (held [] e)
+        empty-waits here (m .sound) out (held [] e)
         ∙ ap (λ (i : ℕ). record { result = record { answer = Waiting i; next = r }; out = out }) current-is
 
     abbrev moved : State
     moved = step (theirs p) s take
-
-    roads-stay : (next : Receiver) → Shows p (stage next (w .store)) (positions moved) (λ i. moved .line i .store)
-        → Meets p (record { sender = w .sender; receiver = next; store = w .store; road = w .road }) moved
-    roads-stay next far = record {
-      far = far;
-      roads = λ i. m .roads i ∙ ap (map (parcelOf p i)) (sym (same i));
-      on-road = λ i. subst (AllFit p) (sym (same i)) (m .on-road i);
-      off-road = λ i h. same i ∙ m .off-road i h;
-    }
-      where
-        same : (i : ℕ) → moved .line i .road ≡ s .line i .road
-        same = at-field (λ (l : T.Line). l .road) c (fetched (theirs p) c) (s .line) (fetched-road (theirs p) c)
 
     -- the item in front, x, is taken, its line goes to position y, and its turn becomes that of y
     module _ (out : List ℕ) (x : Item) (rest : List Item) (e : s .line c .store ≡ x ∷ rest)
@@ -147,8 +134,8 @@ module _ (p : Plan) (good : planOk p ≡ true) (some : 1 ≤ p .lines) (w : Worl
         new-turns : (i : ℕ) → i < p .lines → turnOf turns i ≡ turnAt (quantum p i) (moved .line i .position)
         new-turns =
             each (λ i l. turnOf turns i ≡ turnAt (quantum p i) (l .position))
-            (λ l. turn-same (r .turns) c (did .step .line .turn) (m .far .sound .whole .turns) is-one ∙ turn ∙ ap (turnAt (quantum p c)) (sym position-now))
-            (λ j d l. turn-other (r .turns) c (did .step .line .turn) j (λ q. d (sym q)) ∙ m .far .turns j l)
+            (λ l. turn-same (r .turns) c (did .step .line .turn) (m .sound .whole .turns) is-one ∙ turn ∙ ap (turnAt (quantum p c)) (sym position-now))
+            (λ j d l. turn-other (r .turns) c (did .step .line .turn) j (λ q. d (sym q)) ∙ m .turns j l)
 
         -- one item is gone from the line that was taken from, none from another
         gone : (j : ℕ) (t : Bool) → eqb c j ≡ t → takenFrom j (took .result .answer) ≡ cond t 1 0
@@ -157,7 +144,7 @@ module _ (p : Plan) (good : planOk p ≡ true) (some : 1 ≤ p .lines) (w : Worl
         less : (j n : ℕ) → takenFrom j (took .result .answer) ≡ n → j < p .lines → HoldsOn j left (drop n (map (entryOf p j) (s .line j .store)))
         less j n q l =
             subst (λ (k : ℕ). HoldsOn j left (drop k (map (entryOf p j) (s .line j .store)))) q
-            (taken-holds here (m .far .sound) out j _ (m .far .holds j l) .holds)
+            (taken-holds here (m .sound) out j _ (m .holds j l) .holds)
 
         new-holds : (i : ℕ) → i < p .lines → HoldsOn i left (map (entryOf p i) (moved .line i .store))
         new-holds =
@@ -168,20 +155,17 @@ module _ (p : Plan) (good : planOk p ≡ true) (some : 1 ≤ p .lines) (w : Worl
             (subst (λ (items : List Item). HoldsOn c left (drop 1 (map (entryOf p c) items))) e fewer))
             (λ j d l. less j 0 (gone j false (ne-eqb c j d)) l)
 
-        shows : Shows p left (positions moved) (λ i. moved .line i .store)
-        shows = record {
-          plan = taken-plan here (m .far .sound) out ∙ m .far .plan;
-          sound = taken-sound here (m .far .sound) out (take-valid r (w .store) out (m .far .sound .good));
+        pub moves : Far p (takeOf r (w .store) out .result .next) (w .store) moved
+        moves = record {
+          plan = taken-plan here (m .sound) out ∙ m .plan;
+          sound = taken-sound here (m .sound) out (take-valid r (w .store) out (m .sound .good));
           round = rw is (
-              ap (λ (q : Plan). roundNow (q .lines) (roundOf turns) (r .turns .round)) (m .far .plan)
+              ap (λ (q : Plan). roundNow (q .lines) (roundOf turns) (r .turns .round)) (m .plan)
               ∙ round-is (theirs p) some (positions s) (positions moved) (roundOf turns) (r .turns .round)
-              (λ i l. ap (λ (t : Turn). t .round) (new-turns i l)) (m .far .round) spans);
+              (λ i l. ap (λ (t : Turn). t .round) (new-turns i l)) (m .round) spans);
           turns = rw is new-turns;
           holds = new-holds;
           fit = each (λ i l. AllFit p (l .store))
-              (λ l. subst (AllFit p) (sym store-now) (subst (AllFit p) e (m .far .fit c l) .1))
-              (λ j d l. m .far .fit j l);
+              (λ l. subst (AllFit p) (sym store-now) (subst (AllFit p) e (m .fit c l) .1))
+              (λ j d l. m .fit j l);
         }
-
-        pub moves : Meets p (record { sender = w .sender; receiver = took .result .next; store = w .store; road = w .road }) moved
-        moves = roads-stay (took .result .next) shows

@@ -13,10 +13,10 @@ use Rattle.theory.specs.System as T
 use Rattle.receiving.specs.declared.Receiver.{Receiver}
 use Rattle.receiving.specs.Receiver.{turnOf, openedReceiver, openReceiver}
 use Rattle.receiving.specs.Stage.{stage}
-use Rattle.receiving.proofs.Opening.{is-open, open-sound, open-empty}
+use Rattle.receiving.proofs.Opening.{opens-in, is-open, open-sound, open-empty}
 use Rattle.bundle.specs.Words.{Opens}
 use Rattle.bundle.specs.Demands.{opened}
-use Rattle.bundle.proofs.Meeting.{turnAt, Shows, Meets}
+use Rattle.bundle.proofs.Meeting.{turnAt, Shows, Far, Roads}
 use Rattle.bundle.proofs.Senders.{plan-good}
 
 -- figures where nothing is carried
@@ -27,8 +27,11 @@ first-counter : (q : ℕ) → q ≡ counterAt q 0
 first-counter q = rw (zero-mod q) (omega arith)
 
 module _ (p : Plan) (size : ℕ) (store : List ℕ) (o : Opens p size store) where
+  opens : openReceiver p size .number ≡ 0
+  opens = opens-in p size (o .plan) (o .room)
+
   is : openReceiver p size .receiver ≡ openedReceiver p size
-  is = is-open p size (o .receiver)
+  is = is-open p size opens
 
   few : p .lines ≤ mostLines
   few = in-range p (plan-good p size store o) .few-lines
@@ -39,12 +42,15 @@ module _ (p : Plan) (size : ℕ) (store : List ℕ) (o : Opens p size store) whe
   shows : Shows (trimmed p) (stage (openReceiver p size .receiver) store) (λ i. 0) (λ i. [])
   shows = record {
     plan = ap (λ (r : Receiver). r .plan) is;
-    sound = open-sound p size store (o .sixteen) (o .receiver) (o .long);
+    sound = open-sound p size store (o .sixteen) opens (o .long);
     round = ap (λ (r : Receiver). r .turns .round) is ∙ first-round _;
     turns = λ i line. ap (λ (r : Receiver). turnOf (r .turns) i) is ∙ first-turn i line;
-    holds = λ i line. open-empty p size store (o .sixteen) (o .receiver) (o .long) i line;
+    holds = λ i line. open-empty p size store (o .sixteen) opens (o .long) i line;
     fit = λ i line. tt;
   }
 
-  pub open-meets : Meets (trimmed p) (opened p size store) T.atOpening
-  open-meets = record { far = shows; roads = λ i. refl; on-road = λ i. tt; off-road = λ i off. refl }
+  pub open-far : Far (trimmed p) (opened p size store .receiver) store T.atOpening
+  open-far = shows
+
+  pub open-roads : Roads (trimmed p) (opened p size store .road) (T.atOpening .line)
+  open-roads = record { same = λ i. refl; fit = λ i. tt; off = λ i off. refl }

@@ -1,5 +1,5 @@
 -- The demands hold of every history of calls. Assumes nothing.
-use Prim.Native.Nat.{ℕ, suc, _+_, _-_, _≤_}
+use Prim.Native.Nat.{ℕ, _+_, _-_, _≤_}
 use native.Mathlib.Nat.{le-trans}
 use native.Mathlib.Omega.{arith}
 use mathlib.Core.Bool.{Bool, true, false, cond}
@@ -7,10 +7,12 @@ use mathlib.Core.List.{List, [], _∷_, _++_, map}
 use mathlib.Core.Path.{_≡_, refl, ap, sym, _∙_, subst}
 use lib.Dec.{leb}
 use lib.ListN.{length, drop}
-use borrow.Author.Tests.{le-leb}
+use borrow.Author.Tests.{le-leb, lt-leb}
 use Rattle.plan.specs.declared.Plan.{Plan}
 use Rattle.plan.specs.Plan.{chargeOf, trimmed}
+use Rattle.theory.specs.Sending.{rounds}
 use Rattle.theory.specs.Sending as S
+use Rattle.theory.specs.Demands.{Lowest}
 use Rattle.theory.specs.System.{Item, packet, marker, Line, State, Step, take, fetched, positions, current, step, run, packets, nth, outs}
 use Rattle.theory.specs.System as T
 use Rattle.theory.specs.Words.{total, before, NoneBehind, toCome}
@@ -18,25 +20,31 @@ use Rattle.theory.specs.Words as W
 use Rattle.theory.specs.FarEnd.{front, handedBytes}
 use Rattle.theory.specs.FarEnd as F
 use Rattle.theory.proofs.Lines.{fetched-lost}
-use Rattle.theory.proofs.Choose.{choose-wins}
+use Rattle.theory.proofs.Choose.{only-one-wins, choose-wins}
 use Rattle.theory.proofs.Histories.{at-field, run-append, outs-append, near-split}
 use Rattle.theory.proofs.Lossless.{lossless-near}
+use Rattle.ring.specs.Queue.{Entry}
+use Rattle.receiving.specs.declared.Receiver.{Receiver}
 use Rattle.receiving.specs.declared.Taken.{Taken}
 use Rattle.receiving.specs.declared.Taken.the-variants.{Waiting, Data, Missing, Behind, Refused}
+use Rattle.receiving.specs.Receiver.{openReceiver}
 use Rattle.receiving.specs.Taking.{takeOf}
-use Rattle.bundle.specs.Worlds.{World, Call, takes, takeSeen, call, handedIn}
-use Rattle.bundle.specs.Log.{stepsOf, log}
-use Rattle.bundle.specs.Words.{Opens, Names, NoPacket}
-use Rattle.bundle.specs.Demands.{theirs, opened, after, logOf, system, sentOf, Near, NothingLost}
-use Rattle.bundle.specs.Demands.{LogShown, ChargedBytes, SameRule, InOrder, AllOut, Reports, Order, Cleared, Valid, OnlyForCause, Promises}
+use Rattle.receiving.proofs.Opening.{opens-in, is-open}
+use Rattle.bundle.specs.Events.{Parcel, lostBy, storedBy, each}
+use Rattle.bundle.specs.Worlds.{World, Call, takes, takeSeen, seen, call, events, handedIn}
+use Rattle.bundle.specs.Log.{stepsOf, log, parcelOf, entryOf}
+use Rattle.bundle.specs.Words.{andThen, back, Opens, Names, NoPacket, NoPacketOn}
+use Rattle.bundle.specs.Demands.{theirs, opened, after, logOf, system, sentOf, taking, Near, NothingLost, LosslessNear}
+use Rattle.bundle.specs.Demands.{LogShown, StageIsShown, ChargedBytes, SameRule, Answered, InOrder, AllOut, Reports, Order, Cleared, Valid, OnlyForCause, Promises}
 use Rattle.bundle.proofs.Meeting.{AllFit}
-use Rattle.bundle.proofs.Histories.{log-append, handed-append, log-packets}
+use Rattle.bundle.proofs.Histories.{along, each-and, log-append, handed-append, log-packets}
+use Rattle.bundle.proofs.Shown.{put-shown, call-tells}
 use Rattle.bundle.proofs.Senders.{kept-good, keeps, rule, share, marker-written}
 use Rattle.bundle.proofs.Arrivals.{land-stored}
-use Rattle.bundle.proofs.Takes.{says}
-use Rattle.bundle.proofs.Runs.{bytes-append, plan-sound, far, near-and, some, reaches}
-use Rattle.bundle.proofs.Queues.{size-kept, queues-kept}
-use Rattle.bundle.proofs.Drained.{none-queued, answers, queued, drained}
+use Rattle.bundle.proofs.Takes.{says, writes}
+use Rattle.bundle.proofs.Runs.{bytes-append, plan-sound, far, system-and, near-and, some, roads, reaches}
+use Rattle.bundle.proofs.Queues.{from-opening, size-kept, queues-kept}
+use Rattle.bundle.proofs.Drained.{none-queued, answers, leaves, queued, used-is, drained}
 
 -- ---- lists
 
@@ -54,33 +62,6 @@ names-says out i (packet k b ∷ rest) x = go (leb (length b) (length out))
     go true = refl
     go false = refl
 names-says out i (marker k m ∷ rest) x = refl
-
--- one that reports found a marker
-record Found (c : ℕ) (items : List Item) (x i m : ℕ) : Type 0 where
-  label : ℕ
-  at : ℕ
-  rest : List Item
-  items-are : items ≡ marker label at ∷ rest
-  line-is : c ≡ i
-  missing-is : at - x ≡ m
-
-data-not-missing : {i n j m : ℕ} → Data i n ≡ Missing j m → ⊥
-data-not-missing e = let z : _≡_ {A = ℕ} 0 1 = cc in omega arith
-
-refused-not-missing : {k j m : ℕ} → Refused k ≡ Missing j m → ⊥
-refused-not-missing e = let z : _≡_ {A = ℕ} 0 1 = cc in omega arith
-
-waiting-not-missing : {i j m : ℕ} → Waiting i ≡ Missing j m → ⊥
-waiting-not-missing e = let z : _≡_ {A = ℕ} 0 1 = cc in omega arith
-
-found : (out : List ℕ) (c : ℕ) (items : List Item) (x i m : ℕ) → says out c items x ≡ Missing i m → Found c items x i m
-found out c [] x i m e = absurd (waiting-not-missing e)
-found out c (packet k b ∷ rest) x i m e = absurd (go (leb (length b) (length out)) e)
-  where
-    go : (t : Bool) → cond t (Data c (length b)) (Refused 8) ≡ Missing i m → ⊥
-    go true e = data-not-missing e
-    go false e = refused-not-missing e
-found out c (marker k at ∷ rest) x i m e = record { label = k; at = at; rest = rest; items-are = refl; line-is = cc; missing-is = cc }
 
 -- one with room for the largest packet is not refused
 data-not-refused : {i n k : ℕ} → Data i n ≡ Refused k → ⊥
@@ -135,25 +116,83 @@ module _ (p : Plan) (size : ℕ) (store : List ℕ) (o : Opens p size store) whe
   abbrev steps : List Call → List Step
   steps h = logOf p size store h
 
+  -- by what was lost and stored along the calls
+  tells : (h : List Call) (i : ℕ) → (each (lostBy i) (events begin h) ≡ map (parcelOf (trimmed p) i) (back (state h .line i .lost)))
+      × (each (storedBy i) (events begin h) ≡ map (entryOf (trimmed p) i) (back (state h .line i .taken) ++ state h .line i .store))
+  tells h i =
+      along (λ h. (each (lostBy i) (events begin h) ≡ lostOf h) × (each (storedBy i) (events begin h) ≡ storedOf h)) (refl, refl)
+      (λ h e now.
+      let t = call-tells (trimmed p) (world h) (state h) (roads p size store o h) e in
+      rw (each-and (lostBy i) h e begin, each-and (storedBy i) h e begin, system-and p size store o h e) (
+        ap (λ (l : List Parcel). l ++ lostBy i (seen (world h) e)) (now .0) ∙ sym (t .lost-more i),
+        ap (λ (l : List Entry). l ++ storedBy i (seen (world h) e)) (now .1) ∙ sym (t .stored-more i),
+      )) h
+    where
+      lostOf : List Call → List Parcel
+      lostOf h = map (parcelOf (trimmed p) i) (back (state h .line i .lost))
+
+      storedOf : List Call → List Entry
+      storedOf h = map (entryOf (trimmed p) i) (back (state h .line i .taken) ++ state h .line i .store)
+
   log-shown : LogShown p size store
-  log-shown h near =
-      let r = reaches p size store o h near in
-      record { sent = sym (log-packets h begin); handed = r .hands; road = r .meets .roads; queued = queued p size store o h near }
+  log-shown = record {
+    sent = λ h. sym (log-packets h begin);
+    road = λ h i. roads p size store o h .same i;
+    put = λ h i. put-shown begin i refl h;
+    lost = λ h i. tells h i .0;
+    stored = λ h i. tells h i .1;
+  }
+
+  stage-shown : StageIsShown p size store
+  stage-shown h near = record { handed = reaches p size store o h near .hands; queued = queued p size store o h near; used = used-is p size store o h near }
 
   charged-bytes : ChargedBytes p size store
   unfolding chargeOf
   charged-bytes i n = refl
 
-  same-rule : SameRule p size store
-  same-rule h out near =
-      let w = choose-wins plan (some p size store o) (positions (state h)) in (
-        current plan (state h),
-        record { is-line = w .is-below; lowest = λ j l. w .beats j l .low; on-tie = λ j l e. w .beats j l .tie (omega arith) },
-        subst (Names (current plan (state h))) (sym (answers p size store o h out near)) (names-says out (current plan (state h)) (front plan (state h) .store) (front plan (state h) .position)),
-      )
+  -- the line of lowest round is one
+  lowest : (h : List Call) → Lowest plan (positions (state h)) (current plan (state h))
+  lowest h =
+      let w = choose-wins plan (some p size store o) (positions (state h)) in
+      record { is-line = w .is-below; lowest = λ j l. w .beats j l .low; on-tie = λ j l e. w .beats j l .tie (omega arith) }
 
-  -- with nothing lost every marker is near
-  calm : (h : List Call) → NothingLost p size store h → Near p size store h
+  only-lowest : (h : List Call) (i : ℕ) → Lowest plan (positions (state h)) i → current plan (state h) ≡ i
+  only-lowest h i is =
+      only-one-wins (rounds plan (positions (state h))) (p .lines) _ i (choose-wins plan (some p size store o) (positions (state h)))
+      (record { is-below = is .is-line; beats = λ j l. record { low = is .lowest j l; tie = λ q. is .on-tie j l (omega (arith, is .lowest j l)) } })
+
+  same-rule : SameRule p size store
+  same-rule h out near = (
+    current plan (state h),
+    lowest h,
+    subst (Names (current plan (state h))) (sym (answers p size store o h out near)) (names-says out (current plan (state h)) (front plan (state h) .store) (front plan (state h) .position)),
+  )
+
+  -- what a take says, by what is known to stand in front
+  module _ (h : List Call) (out : List ℕ) (i : ℕ) (near : Near p size store (andThen h (takes out))) (is : Lowest plan (positions (state h)) i)
+      (items : List Item) (e : state h .line i .store ≡ items) where
+    in-front : front plan (state h) .store ≡ items
+    in-front = ap (λ (j : ℕ). state h .line j .store) (only-lowest h i is) ∙ e
+
+    says-so : taking p size store h out .result .answer ≡ says out i items (state h .line i .position)
+    says-so =
+        answers p size store o h out near
+        ∙ ap (λ (l : List Item). says out (current plan (state h)) l (front plan (state h) .position)) in-front
+        ∙ ap (λ (j : ℕ). says out j items (state h .line j .position)) (only-lowest h i is)
+
+    leaves-so : taking p size store h out .out ≡ writes out items
+    leaves-so = leaves p size store o h out near ∙ ap (writes out) in-front
+
+  answered : Answered p size store
+  answered h out i near is = record {
+    empty = λ e. says-so h out i near is [] e;
+    packet = λ k x rest e fits.
+        let t = le-leb (length x) (length out) fits in
+        (says-so h out i near is (packet k x ∷ rest) e ∙ simp t, leaves-so h out i near is (packet k x ∷ rest) e ∙ simp t);
+    too-long = λ k x rest e short. says-so h out i near is (packet k x ∷ rest) e ∙ simp (lt-leb (length x) (length out) short);
+  }
+
+  calm : LosslessNear p size store
   calm h none = lossless-near plan (plan-sound p size store o) (steps h) none
 
   in-order : InOrder p size store
@@ -165,32 +204,30 @@ module _ (p : Plan) (size : ℕ) (store : List ℕ) (o : Opens p size store) whe
   system-append h g = ap (run plan T.atOpening) (log-append h g begin) ∙ run-append plan (steps h) (log (world h) g) T.atOpening
 
   all-out : AllOut p size store
-  all-out h none roads outs many room =
+  all-out h none empty outs many room =
       let g : List Call = h ++ map takes outs in
       let none-later : NothingLost p size store g =
       λ i line. ap (λ (s : State). s .line i .lost) (system-append h (map takes outs)) ∙ takes-lose plan outs (world h) (state h) i ∙ none i line in
       let near = calm g none-later in
       reaches p size store o g near .hands
       ∙ ap (λ (l : List Step). handedBytes (T.outs plan T.atOpening l)) (drained p size store o h outs many room near)
-      ∙ far p size store o .all-out (steps h) none (λ i line. map-none _ _ (sym (reaches p size store o h (calm h none) .meets .roads i) ∙ roads i line))
+      ∙ far p size store o .all-out (steps h) none (λ i line. no-packet i (state h .line i .road) (subst NoPacketOn (roads p size store o h .same i) (empty i line)))
       ∙ log-packets h begin
     where
-      map-none : {A B : Type 0} (f : A → B) (l : List A) → map f l ≡ [] → l ≡ []
-      map-none f [] e = refl
-      map-none f (x ∷ l) e = absurd (let z : suc (length (map f l)) ≡ 0 = ap length e in omega arith)
+      no-packet : (i : ℕ) (items : List Item) → NoPacketOn (map (parcelOf (trimmed p) i) items) → W.NoPacketIn items
+      no-packet i [] none = tt
+      no-packet i (packet k x ∷ rest) none = absurd none
+      no-packet i (marker k m ∷ rest) none = no-packet i rest none
 
   reports : Reports p size store
-  reports h out i m near e =
-      let c : ℕ = current plan (state h) in
-      let f = found out c (front plan (state h) .store) (front plan (state h) .position) i m (sym (answers p size store o h out near) ∙ e) in
-      let q = far p size store o .missing (steps h) (f .label) (f .at) (f .rest) (f .items-are) in
+  reports h out i k position rest near is e =
+      let q = far p size store o .missing (steps h) k position rest (in-front h out i near is _ e) in
       let told = reaches p size store o h (near-and p size store o h (takes out) near .0) .reports i in (
-        f .label,
-        f .at,
-        f .rest,
-        subst (λ (j : ℕ). state h .line j .store ≡ marker (f .label) (f .at) ∷ f .rest) (f .line-is) (f .items-are),
-        ap (λ (n : ℕ). m + n) told
-            ∙ subst (λ (j : ℕ). m + state h .line j .reported ≡ total (before plan j (f .label)) (state h .line j .lost)) (f .line-is) (omega (arith, q .1, f .missing-is)),
+        position - state h .line i .position,
+        says-so h out i near is _ e,
+        leaves-so h out i near is _ e,
+        ap (λ (n : ℕ). (position - state h .line i .position) + n) told
+            ∙ subst (λ (j : ℕ). (position - state h .line j .position) + state h .line j .reported ≡ total (before plan j k) (state h .line j .lost)) (only-lowest h i is) (q .1),
       )
 
   -- what the calls behind h₁ hand out
@@ -225,28 +262,37 @@ module _ (p : Plan) (size : ℕ) (store : List ℕ) (o : Opens p size store) whe
       (none-queued (trimmed p) i (state g .line i .store)
       (subst (λ (l : List Step). W.NoPacketIn (F.after plan l .line i .store)) (sym (drained p size store o h outs many room near)) (far p size store o .cleared (steps h) marks i line)))
 
+  opens : openReceiver p size .number ≡ 0
+  opens = opens-in p size (o .plan) (o .room)
+
   valid : Valid p size store
-  valid h = (keeps p size store o h .valid, queues-kept p size (o .sixteen) (o .receiver) begin refl (o .long) h .valid)
+  valid h = (keeps p size store o h .valid, queues-kept p size (o .sixteen) opens begin refl (o .long) h .valid)
 
   only-for-cause : OnlyForCause p size store
   only-for-cause = record {
     ask = marker-written p size store o;
-    land = λ h near i x rest e room. land-stored (trimmed p) (world h) (state h) (reaches p size store o h near .meets) (kept-good p size store o) i x rest e
-        (rw (size-kept p size (o .sixteen) (o .receiver) begin refl (o .long) h) room);
+    land = λ h i x rest e room.
+        let k = from-opening p size (o .sixteen) opens begin refl (o .long) h in
+        land-stored (trimmed p) (world h) (state h) (roads p size store o h) (kept-good p size store o) (k .sound)
+        (k .plan ∙ ap (λ (r : Receiver). r .plan) (is-open p size opens)) i x rest e
+        (rw (size-kept p size (o .sixteen) opens begin refl (o .long) h) room);
     take = λ h out near room k e.
         let n = near-and p size store o h (takes out) near .0 in
         room-says (trimmed p) out _ (front plan (state h) .store) _
-        (reaches p size store o h n .meets .far .fit (current plan (state h)) (choose-wins plan (some p size store o) (positions (state h)) .is-below)) room k
+        (reaches p size store o h n .far-end .fit (current plan (state h)) (choose-wins plan (some p size store o) (positions (state h)) .is-below)) room k
         (sym (answers p size store o h out near) ∙ e);
   }
 
   pub promises : Promises p size store
   promises = record {
     log-shown = log-shown;
+    stage-shown = stage-shown;
+    lossless-near = calm;
     charged-bytes = charged-bytes;
     rule = rule p size store o;
     share = share p size store o;
     same-rule = same-rule;
+    answers = answered;
     in-order = in-order;
     all-out = all-out;
     reports = reports;

@@ -8,15 +8,18 @@ use mathlib.Core.Logic.{_⊎_, inl, inr}
 use mathlib.Core.Path.{_≡_, refl, ap, sym, _∙_}
 use lib.ListN.{length, take, drop, set, length-append, length-set}
 use lib.Seq.{length-take-le, take-append-add, take-suc-set}
+use Rattle.numbers.proofs.Checks.{never}
 use Rattle.receiving.specs.declared.Ended.{Ended}
+use Rattle.receiving.specs.declared.Ended.the-variants as ended
 use Rattle.receiving.specs.declared.Taken.{Taken}
 use Rattle.receiving.specs.declared.Taken.the-variants.{Waiting, Data, Missing, Behind, Refused}
-use Rattle.receiving.specs.Taking.{takeOf}
+use Rattle.receiving.specs.Receiver.{receiverOk, storeFits}
+use Rattle.receiving.specs.Taking.{takenNumber, takenValues, takeOf}
 use Rattle.receiving.specs.Takes.{wordOf, bytesOf, endOf, goesOn, Run, stopped, takesFrom, takesOf}
 use Rattle.receiving.proofs.Valid.{out-length, bytes-fit}
 use Rattle.bundle.specs.Events.{Handed, handedBy, bytesOut}
 use Rattle.bundle.specs.Worlds.{World, takes, takeSeen, call, calls, handedOut, handedIn}
-use Rattle.bundle.specs.Running.{joined, answersIn, RunIsTakes}
+use Rattle.bundle.specs.Running.{joined, answersIn, StopsAt, Runs, RunIsTakes}
 
 -- the packet of a take, if there is one, is the bytes that it has written
 joined-by : (t : Taken) (out : List ℕ) (rest : List Handed) → joined (bytesOut (handedBy (takeSeen out t) ++ rest)) ≡ take (bytesOf t) out ++ joined (bytesOut rest)
@@ -26,6 +29,14 @@ joined-by (Missing i m) out rest = refl
 joined-by (Behind i) out rest = refl
 joined-by (Refused k) out rest = refl
 
+-- a take that another does not follow ends a run with its own number and line
+stops-at : (t : Taken) → goesOn t ≡ false → StopsAt (endOf t) t
+stops-at (Waiting i) e = record { goes-no-further = e; number = refl; values = refl }
+stops-at (Data i n) e = absurd (never e)
+stops-at (Missing i m) e = absurd (never e)
+stops-at (Behind i) e = absurd (never e)
+stops-at (Refused k) e = record { goes-no-further = e; number = refl; values = refl }
+
 -- takes that lead to the end of a run, behind k that have written the first `at` bytes of the output: what those have left stays in front
 record Ends (w : World) (k at : ℕ) (out log : List ℕ) (run : Run) : Type 0 where
   outs : List (List ℕ)
@@ -34,8 +45,8 @@ record Ends (w : World) (k at : ℕ) (out log : List ℕ) (run : Run) : Type 0 w
   bytes : take at out ++ joined (handedIn w (map takes outs)) ≡ take (run .result .bytes) (run .out)
   words : take k log ++ map wordOf (answersIn w outs) ≡ take (run .result .taken) (run .log)
   stops :
-      (run .result .taken ≡ length log)
-      ⊎ (goesOn (takeOf (run .result .next) (w .store) (drop (run .result .bytes) (run .out)) .result .answer) ≡ false)
+      ((run .result .taken ≡ length log) × (run .result .ended ≡ ended.Full))
+      ⊎ StopsAt (run .result .ended) (takeOf (run .result .next) (w .store) (drop (run .result .bytes) (run .out)) .result .answer)
 
 module _ (w : World) (k at : ℕ) (out log : List ℕ) where
   -- the next take, into what is left of the output
@@ -52,7 +63,7 @@ module _ (w : World) (k at : ℕ) (out log : List ℕ) where
   part = takeOf (w .receiver) (w .store) left .out
 
   -- a run ends where the log is full, or that take would wait or be refused
-  ends : (end : Ended) → (k ≡ length log) ⊎ (goesOn answer ≡ false) → Ends w k at out log (stopped end (w .receiver) k at out log)
+  ends : (end : Ended) → ((k ≡ length log) × (end ≡ ended.Full)) ⊎ StopsAt end answer → Ends w k at out log (stopped end (w .receiver) k at out log)
   ends end why = record {
     outs = [];
     count = add-zero k;
@@ -98,19 +109,35 @@ module _ (w : World) (k at : ℕ) (out log : List ℕ) where
 from : (n : ℕ) (w : World) (k at : ℕ) (out log : List ℕ) → at ≤ length out → k + n ≡ length log
     → Ends w k at out log (takesFrom n (w .store) (w .receiver) k at out log)
 unfolding takesFrom
-from zero w k at out log inside full = ends w k at out log _ (inl (omega arith))
+from zero w k at out log inside full = ends w k at out log ended.Full (inl (omega arith, refl))
 from (suc n) w k at out log inside full =
     let word = wordOf (answer w k at out log) in
     let rest = from n (next w k at out log) (suc k) _ _ (set log k word) (bytes-inside w k at out log inside) (omega (arith, length-set log k word)) in
-    go (endOf (answer w k at out log)) (goesOn (answer w k at out log)) refl (goes w k at out log inside (omega arith) _ rest)
+    go (goesOn (answer w k at out log)) refl (goes w k at out log inside (omega arith) _ rest)
   where
-    go : (end : Ended) (t : Bool) → goesOn (answer w k at out log) ≡ t → {on : Run} → Ends w k at out log on
-        → Ends w k at out log (cond t on (stopped end (w .receiver) k at out log))
-    go end true e on = on
-    go end false e on = ends w k at out log end (inr e)
+    go : (t : Bool) → goesOn (answer w k at out log) ≡ t → {on : Run} → Ends w k at out log on
+        → Ends w k at out log (cond t on (stopped (endOf (answer w k at out log)) (w .receiver) k at out log))
+    go true e on = on
+    go false e on = ends w k at out log _ (inr (stops-at (answer w k at out log) e))
 
 pub run-is-takes : RunIsTakes
-unfolding takesOf
-run-is-takes w out log =
-    let e = from (length log) w 0 0 out log (omega arith) (omega arith) in
-    record { outs = e .outs; count = omega (arith, e .count); world = e .world; bytes = e .bytes; words = e .words; stops = e .stops }
+unfolding takesOf takeOf
+run-is-takes w out log = go (receiverOk (w .receiver)) refl (storeFits (w .receiver) (w .store)) refl
+  where
+    run : Bool → Bool → Run
+    run good fits =
+        cond good
+        (cond fits (takesFrom (length log) (w .store) (w .receiver) 0 0 out log) (stopped (ended.Refused 9) (w .receiver) 0 0 out log))
+        (stopped (ended.Refused 2) (w .receiver) 0 0 out log)
+
+    -- from the start
+    all : {r : Run} → Ends w 0 0 out log r → Runs w log r
+    all e = record { outs = e .outs; count = omega (arith, e .count); world = e .world; bytes = e .bytes; words = e .words; stops = e .stops }
+
+    refused : (k : ℕ) → takeOf (w .receiver) (w .store) out .result .answer ≡ Refused k → Runs w log (stopped (ended.Refused k) (w .receiver) 0 0 out log)
+    refused k e = all (ends w 0 0 out log (ended.Refused k) (inr (record { goes-no-further = ap goesOn e; number = sym (ap takenNumber e); values = sym (ap takenValues e) })))
+
+    go : (t : Bool) → receiverOk (w .receiver) ≡ t → (u : Bool) → storeFits (w .receiver) (w .store) ≡ u → Runs w log (run t u)
+    go true g true f = all (from (length log) w 0 0 out log (omega arith) (omega arith))
+    go true g false f = refused 9 (simp (g, f))
+    go false g u f = refused 2 (simp g)

@@ -26,14 +26,14 @@ use Rattle.bundle.specs.Worlds.{World, Call, sends, asks, arrives, loses
 use Rattle.bundle.specs.Log.{stepsOf, log}
 use Rattle.bundle.specs.Words.{andThen, Opens}
 use Rattle.bundle.specs.Demands.{theirs, opened, after, logOf, system, sentOf, carried, Near}
-use Rattle.bundle.proofs.Meeting.{Meets}
+use Rattle.bundle.proofs.Meeting.{Far, Roads}
 use Rattle.bundle.proofs.Currents.{Within}
 use Rattle.bundle.proofs.Histories.{along, calls-append, log-append, handed-append, reported-append, log-packets, ask-cases, arrive-cases, lose-cases}
 use Rattle.bundle.proofs.Senders.{kept-good, sent-fit, goes, marks}
-use Rattle.bundle.proofs.Opening.{open-meets}
-use Rattle.bundle.proofs.Roads.{send-meets, ask-meets, lose-meets}
-use Rattle.bundle.proofs.Arrivals.{arrive-meets}
-use Rattle.bundle.proofs.Takes.{take-hands, take-reports, take-meets}
+use Rattle.bundle.proofs.Opening.{open-far, open-roads}
+use Rattle.bundle.proofs.Roads.{Booths, call-roads, send-far, ask-far, lose-far}
+use Rattle.bundle.proofs.Arrivals.{arrive-far}
+use Rattle.bundle.proofs.Takes.{take-hands, take-reports, take-far}
 
 pub bytes-append : (xs ys : List Out) → handedBytes (xs ++ ys) ≡ handedBytes xs ++ handedBytes ys
 bytes-append [] ys = refl
@@ -161,49 +161,60 @@ module _ (p : Plan) (size : ℕ) (store : List ℕ) (o : Opens p size store) whe
   pub not-behind : (h : List Call) (k m : ℕ) (rest : List Item) → front plan (state h) .store ≡ marker k m ∷ rest → front plan (state h) .position ≤ m
   not-behind h k m rest e = far .missing (logOf p size store h) k m rest e .0
 
+  -- the roads show the system's after any calls
+  fair : (h : List Call) (e : Call) → Booths kept (world h) (state h) e
+  fair h (sends x) = rw (carries-is h) (goes p size store o h x)
+  fair h (asks i out) = rw (carries-is h) (marks p size store o h i out)
+  fair h (arrives i) = tt
+  fair h (loses i) = tt
+  fair h (takes out) = tt
+
+  pub roads : (h : List Call) → Roads kept (world h .road) (state h .line)
+  roads =
+      along (λ h. Roads kept (world h .road) (state h .line)) (open-roads p size store o)
+      (λ h e now. rw (after-and h e, system-and h e) (call-roads kept (world h) (state h) now e (fair h e)))
+
+  -- and the far end, as long as markers are near
   pub record Reaches (h : List Call) : Type 0 where
-    pub meets : Meets kept (world h) (state h)
+    pub far-end : Far kept (world h .receiver) (world h .store) (state h)
     pub hands : handedIn (opened p size store) h ≡ handedBytes (outs plan T.atOpening (logOf p size store h))
     pub reports : (i : ℕ) → reportedIn i (opened p size store) h ≡ state h .line i .reported
 
   -- what a call does, from a world that shows a state
   record Does (w : World) (s : State) (e : Call) : Type 0 where
-    meets : Meets kept (call w e) (run plan s (stepsOf (seen w e)))
+    far-end : Far kept (call w e .receiver) (call w e .store) (run plan s (stepsOf (seen w e)))
     hands : bytesOut (handedBy (seen w e)) ≡ handedBytes (outs plan s (stepsOf (seen w e)))
     reports : (i : ℕ) → run plan s (stepsOf (seen w e)) .line i .reported ≡ s .line i .reported + reportedBy i (seen w e)
 
-  silent-does : (w : World) (s : State) (e : Call) → Silent (seen w e) → Meets kept (call w e) (run plan s (stepsOf (seen w e))) → Does w s e
-  silent-does w s e silent meets = record {
-    meets = meets;
+  silent-does : (w : World) (s : State) (e : Call) → Silent (seen w e)
+      → Far kept (call w e .receiver) (call w e .store) (run plan s (stepsOf (seen w e))) → Does w s e
+  silent-does w s e silent far-end = record {
+    far-end = far-end;
     hands = ap bytesOut (silent .hands) ∙ ap handedBytes (sym (all-hands plan (stepsOf (seen w e)) s (silent .steps)));
     reports = λ i. omega (arith, all-reports plan (stepsOf (seen w e)) s (silent .steps) i, silent .reports i);
   }
 
   does : (h : List Call) (e : Call) → Reaches h → Near p size store (andThen h e) → Does (world h) (state h) e
-  does h (sends x) r near =
-      silent-does (world h) (state h) (sends x) (send-silent (world h) x)
-      (send-meets kept (world h) (state h) (r .meets) x (rw (carries-is h) (goes p size store o h x)))
+  does h (sends x) r near = silent-does (world h) (state h) (sends x) (send-silent (world h) x) (send-far kept (world h) (state h) (r .far-end) x)
   does h (asks i out) r near =
-      silent-does (world h) (state h) (asks i out) (ask-silent (world h) i out)
-      (ask-meets kept (world h) (state h) (r .meets) i out (rw (carries-is h) (marks p size store o h i out)))
+      silent-does (world h) (state h) (asks i out) (ask-silent (world h) i out) (ask-far kept (world h) (state h) (r .far-end) i out)
   does h (arrives i) r near =
-      silent-does (world h) (state h) (arrives i) (arrive-silent (world h) i) (arrive-meets kept (world h) (state h) (r .meets) i)
-  does h (loses i) r near =
-      silent-does (world h) (state h) (loses i) (lose-silent (world h) i) (lose-meets kept (world h) (state h) (r .meets) i)
+      silent-does (world h) (state h) (arrives i) (arrive-silent (world h) i) (arrive-far kept (world h) (state h) (roads h) (r .far-end) i)
+  does h (loses i) r near = silent-does (world h) (state h) (loses i) (lose-silent (world h) i) (lose-far kept (world h) (state h) (r .far-end) i)
   does h (takes out) r near =
       let n = near-and h (takes out) near in
       let good = kept-good p size store o in
       record {
-        meets = take-meets kept good some (world h) (state h) (r .meets) (within h (n .0)) (not-behind h) out (n .1);
-        hands = take-hands kept good some (world h) (state h) (r .meets) (within h (n .0)) (not-behind h) out (n .1);
-        reports = take-reports kept good some (world h) (state h) (r .meets) (within h (n .0)) (not-behind h) out (n .1);
+        far-end = take-far kept good some (world h) (state h) (r .far-end) (within h (n .0)) (not-behind h) out (n .1);
+        hands = take-hands kept good some (world h) (state h) (r .far-end) (within h (n .0)) (not-behind h) out (n .1);
+        reports = take-reports kept good some (world h) (state h) (r .far-end) (within h (n .0)) (not-behind h) out (n .1);
       }
 
   reaches-and : (h : List Call) (e : Call) → Reaches h → Near p size store (andThen h e) → Reaches (andThen h e)
   reaches-and h e r near =
       let d = does h e r near in
       record {
-        meets = rw (after-and h e, system-and h e) (d .meets);
+        far-end = rw (after-and h e, system-and h e) (d .far-end);
         hands =
             handed-append h (e ∷ []) (opened p size store)
             ∙ ap (λ (l : List (List ℕ)). handedIn (opened p size store) h ++ l) (ap bytesOut (append-nil (handedBy (seen (world h) e))) ∙ d .hands)
@@ -220,7 +231,7 @@ module _ (p : Plan) (size : ℕ) (store : List ℕ) (o : Opens p size store) whe
       }
 
   open-reaches : Reaches []
-  open-reaches = record { meets = open-meets p size store o; hands = refl; reports = λ i. refl }
+  open-reaches = record { far-end = open-far p size store o; hands = refl; reports = λ i. refl }
 
   pub reaches : (h : List Call) → Near p size store h → Reaches h
   reaches = along (λ h. Near p size store h → Reaches h) (λ near. open-reaches) (λ h e now near. reaches-and h e (now (near-and h e near .0)) near)

@@ -2,7 +2,7 @@
 use Prim.Native.Nat.{ℕ, _≤_, _<_}
 use native.Mathlib.Decide.{decLt}
 use native.Mathlib.Omega.{arith}
-use mathlib.Core.Bool.{Bool, true, false, cond}
+use mathlib.Core.Bool.{Bool, true, false}
 use mathlib.Core.List.{List, [], _∷_, _++_}
 use mathlib.Core.Path.{_≡_, refl, sym, ap, _∙_}
 use lib.ListN.{length, take}
@@ -14,16 +14,16 @@ use Rattle.numbers.proofs.Checks.{in-range, from-range}
 use Rattle.numbers.proofs.Laws.{accepted, written-fits}
 use Rattle.plan.specs.declared.Plan.{Plan}
 use Rattle.plan.specs.Plan.{planOk, trimmed}
+use Rattle.plan.proofs.Ranges as range
 use Rattle.plan.proofs.Laws.{trimmed-ok, trimmed-quantum}
 use Rattle.theory.specs.Sending.{choose, dueAfter}
 use Rattle.theory.specs.Sending as S
 use Rattle.theory.specs.System as T
 use Rattle.sending.specs.declared.Sender.{Sender}
-use Rattle.sending.specs.declared.SenderOpened.{SenderOpened}
 use Rattle.sending.specs.declared.Sent.{Sent}
 use Rattle.sending.specs.declared.Sent.the-variants as went
 use Rattle.sending.specs.declared.SendResult.{SendResult}
-use Rattle.sending.specs.Sender.{closedSender, openedSender, openSender, sendOf, lineMarker, markerFrom}
+use Rattle.sending.specs.Sender.{sendOf, lineMarker, markerFrom}
 use Rattle.sending.specs.InTheory.{isPacket}
 use Rattle.sending.proofs.Laws.{as-asked, line-not-asked}
 use Rattle.sending.proofs.InTheory.{On}
@@ -66,14 +66,7 @@ module _ (p : Plan) (size : ℕ) (store : List ℕ) (o : Opens p size store) whe
   packets h = sentOf p size store h
 
   pub plan-good : planOk p ≡ true
-  unfolding openSender
-  plan-good = go (planOk p) refl (o .sender)
-    where
-      go : (t : Bool) → planOk p ≡ t
-          → cond {A = SenderOpened} t (record { number = 0; sender = openedSender p }) (record { number = 1; sender = closedSender }) .number ≡ 0
-          → planOk p ≡ true
-      go true e z = e
-      go false e z = absurd (omega arith)
+  plan-good = range.plan-good p (o .plan)
 
   pub kept-good : planOk (trimmed p) ≡ true
   kept-good = trimmed-ok p plan-good (o .sixteen)
@@ -82,7 +75,7 @@ module _ (p : Plan) (size : ℕ) (store : List ℕ) (o : Opens p size store) whe
   on h = booth.on p plan-good (o .sixteen) (opened p size store) refl h
 
   pub keeps : (h : List Call) → Keeps (trimmed p) (sentOf p size store h) (after p size store h .sender)
-  keeps h = every-history p plan-good (o .sixteen) (opened p size store) refl h
+  keeps h = every-history p (o .plan) (o .sixteen) (opened p size store) refl h
 
   -- packets sent are in range
   pub sent-fit : (h : List Call) (n : ℕ) → n < length (sentOf p size store h)

@@ -35,9 +35,9 @@ use Rattle.receiving.specs.Takes.{goesOn}
 use Rattle.receiving.proofs.Taking.{is-data, data-item}
 use Rattle.receiving.proofs.Valid.{refused-stays}
 use Rattle.bundle.specs.Events.{Event, handedBy, reportedBy, bytesOut}
-use Rattle.bundle.specs.Worlds.{World, takes, takeSeen, roadsAfter, call}
+use Rattle.bundle.specs.Worlds.{World, takeSeen}
 use Rattle.bundle.specs.Log.{stepsOf, markOf}
-use Rattle.bundle.proofs.Meeting.{turnAt, theirs, AllFit, Meets}
+use Rattle.bundle.proofs.Meeting.{turnAt, theirs, AllFit, Far}
 use Rattle.bundle.proofs.Marks.{some-quantum, mark-read}
 use Rattle.bundle.proofs.Figures.{round-next, counter-next, report-at}
 use Rattle.bundle.proofs.Currents.{Within}
@@ -49,7 +49,13 @@ says out i [] x = Waiting i
 says out i (packet k b ∷ rest) x = cond (leb (length b) (length out)) (Data i (length b)) (Refused 8)
 says out i (marker k m ∷ rest) x = Missing i (m - x)
 
-module _ (p : Plan) (good : planOk p ≡ true) (some : 1 ≤ p .lines) (w : World) (s : State) (m : Meets p w s)
+-- and the output as it leaves it
+abbrev pub writes : List ℕ → List Item → List ℕ
+writes out [] = out
+writes out (packet k b ∷ rest) = cond (leb (length b) (length out)) (b ++ drop (length b) out) out
+writes out (marker k m ∷ rest) = out
+
+module _ (p : Plan) (good : planOk p ≡ true) (some : 1 ≤ p .lines) (w : World) (s : State) (m : Far p (w .receiver) (w .store) s)
     -- rounds lie within 2^31 of the current one, and a marker in front is not behind its line
     (within : Within (theirs p) some (positions s) (rounds (theirs p) (positions s) (current (theirs p) s)))
     (low : (k at : ℕ) (rest : List Item) → front (theirs p) s .store ≡ marker k at ∷ rest → front (theirs p) s .position ≤ at)
@@ -76,21 +82,17 @@ module _ (p : Plan) (good : planOk p ≡ true) (some : 1 ≤ p .lines) (w : Worl
     some-q : 1 ≤ q
     some-q = some-quantum p good c line
 
-    -- what is seen of an answer with the output that it leaves, and the world by that
-    abbrev after : Event → World
-    after e = record { sender = w .sender; receiver = took .result .next; store = w .store; road = roadsAfter e (w .road) }
-
     -- what is to be shown of it
     record Done (items : List Item) (a : Taken) (o : List ℕ) : Type 0 where
       answer : a ≡ says out c items x
+      leaves : o ≡ writes out items
       hands : bytesOut (handedBy (takeSeen o a)) ≡ handedBytes (outs (theirs p) s (stepsOf (takeSeen o a)))
       reports : (i : ℕ) → run (theirs p) s (stepsOf (takeSeen o a)) .line i .reported ≡ s .line i .reported + reportedBy i (takeSeen o a)
-      meets : Meets p (after (takeSeen o a)) (run (theirs p) s (stepsOf (takeSeen o a)))
+      far : Far p (took .result .next) (w .store) (run (theirs p) s (stepsOf (takeSeen o a)))
 
-    -- a take that hands back the receiver's state leaves the world
-    idle : (t : State) → took .result .next ≡ w .receiver → Meets p w t
-        → Meets p (record { sender = w .sender; receiver = took .result .next; store = w .store; road = w .road }) t
-    idle t e m = subst (λ (next : Receiver). Meets p (record { sender = w .sender; receiver = next; store = w .store; road = w .road }) t) (sym e) m
+    -- a take that hands back the receiver's state leaves the far end
+    idle : (t : State) → took .result .next ≡ w .receiver → Far p (w .receiver) (w .store) t → Far p (took .result .next) (w .store) t
+    idle t e m = subst (λ (next : Receiver). Far p next (w .store) t) (sym e) m
 
     nothing-here : s .line c .store ≡ [] → Done [] (took .result .answer) (took .out)
     nothing-here e =
@@ -100,9 +102,10 @@ module _ (p : Plan) (good : planOk p ≡ true) (some : 1 ≤ p .lines) (w : Worl
         let same : s ≡ step (theirs p) s take = λ k. record { sent = s .sent; carries = s .carries; line = fun-ext (λ j. sym (lines j)) k } in
         rw is (record {
           answer = refl;
+          leaves = refl;
           hands = ap (λ (items : List Item). handedBytes (outOf items ++ [])) (sym e);
           reports = λ i. ap (λ (l : T.Line). l .reported) (lines i) ∙ omega arith;
-          meets = idle (step (theirs p) s take) (ap (λ (o : TakeOutcome). o .result .next) is) (subst (Meets p w) same m);
+          far = idle (step (theirs p) s take) (ap (λ (o : TakeOutcome). o .result .next) is) (subst (Far p (w .receiver) (w .store)) same m);
         })
 
     -- what is reported on each line, by what is on the one that was taken from
@@ -115,12 +118,12 @@ module _ (p : Plan) (good : planOk p ≡ true) (some : 1 ≤ p .lines) (w : Worl
 
     -- the line's turn, as the receiver has it
     turn-is : turnOf (r .turns) c ≡ turnAt q x
-    turn-is = m .far .turns c line
+    turn-is = m .turns c line
 
     -- a packet in front
     module _ (k : ℕ) (b : List ℕ) (rest : List Item) (e : s .line c .store ≡ packet k b ∷ rest) where
       fits : (1 ≤ length b) × (length b ≤ p .max)
-      fits = subst (AllFit p) e (m .far .fit c line) .0
+      fits = subst (AllFit p) e (m .fit c line) .0
 
       abbrev charge : ℕ
       charge = chargeOf (linePlan p c) (length b)
@@ -157,10 +160,11 @@ module _ (p : Plan) (good : planOk p ≡ true) (some : 1 ≤ p .lines) (w : Worl
               let is : took ≡ taken r c handed = took-packet ∙ ap (taken r c) (simp t) in
               rw is (record {
                 answer = simp t;
+                leaves = simp t;
                 hands = ap (λ (bytes : List ℕ). bytes ∷ []) (take-append-seam b (drop (length b) out))
                     ∙ ap (λ (items : List Item). handedBytes (outOf items ++ [])) (sym e);
                 reports = reports-are (takeSeen (onto b out) (Data c (length b))) _ e (omega arith) (λ j d. refl);
-                meets = moves p good some w s m within out (packet k b) rest e (x + charge) refl (omega arith) one-more handed is turn-next (λ j. refl);
+                far = moves p good some w s m within out (packet k b) rest e (x + charge) refl (omega arith) one-more handed is turn-next (λ j. refl);
               })
           go false t =
               let is : took ≡ taken r c (stays (lineOf r c) (Refused 8) out) = took-packet ∙ ap (taken r c) (simp t) in
@@ -168,9 +172,10 @@ module _ (p : Plan) (good : planOk p ≡ true) (some : 1 ≤ p .lines) (w : Worl
               let same = refused-stays r (w .store) out (ap goesOn answered) .0 in
               rw answered (record {
                 answer = simp t;
+                leaves = refused-stays r (w .store) out (ap goesOn answered) .1 ∙ simp t;
                 hands = refl;
                 reports = λ i. omega arith;
-                meets = idle s same m;
+                far = idle s same m;
               })
 
     -- a marker in front, of position y
@@ -212,9 +217,10 @@ module _ (p : Plan) (good : planOk p ≡ true) (some : 1 ≤ p .lines) (w : Worl
           let is : took ≡ taken r c did = is-report ∙ ap (λ (t : Report). taken r c (told-step t)) missing in
           rw is (record {
             answer = refl;
+            leaves = refl;
             hands = ap (λ (items : List Item). handedBytes (outOf items ++ [])) (sym e);
             reports = reports-are (takeSeen out (Missing c (y - x))) _ e (rw (eq-eqb c c refl) refl) (λ j d. rw (ne-eqb c j d) refl);
-            meets = moves p good some w s m within out (marker k y) rest e y refl up ahead did is refl (λ j. refl);
+            far = moves p good some w s m within out (marker k y) rest e y refl up ahead did is refl (λ j. refl);
           })
 
     done : (items : List Item) → s .line c .store ≡ items → Near (theirs p) s (stepsOf (takeSeen (took .out) (took .result .answer)))
@@ -227,6 +233,9 @@ module _ (p : Plan) (good : planOk p ≡ true) (some : 1 ≤ p .lines) (w : Worl
       pub take-says : took .result .answer ≡ says out (current (theirs p) s) (front (theirs p) s .store) (front (theirs p) s .position)
       take-says = done _ refl near .answer
 
+      pub take-leaves : took .out ≡ writes out (front (theirs p) s .store)
+      take-leaves = done _ refl near .leaves
+
       pub take-hands : bytesOut (handedBy (takeSeen (took .out) (took .result .answer)))
           ≡ handedBytes (outs (theirs p) s (stepsOf (takeSeen (took .out) (took .result .answer))))
       take-hands = done _ refl near .hands
@@ -236,5 +245,5 @@ module _ (p : Plan) (good : planOk p ≡ true) (some : 1 ≤ p .lines) (w : Worl
           ≡ s .line i .reported + reportedBy i (takeSeen (took .out) (took .result .answer))
       take-reports i = done _ refl near .reports i
 
-      pub take-meets : Meets p (call w (takes out)) (run (theirs p) s (stepsOf (takeSeen (took .out) (took .result .answer))))
-      take-meets = done _ refl near .meets
+      pub take-far : Far p (took .result .next) (w .store) (run (theirs p) s (stepsOf (takeSeen (took .out) (took .result .answer))))
+      take-far = done _ refl near .far

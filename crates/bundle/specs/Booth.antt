@@ -6,8 +6,8 @@ use mathlib.Core.List.{List, [], _∷_, _++_}
 use lib.ListN.{length}
 use Rattle.numbers.specs.Writing.{written}
 use Rattle.plan.specs.declared.Plan.{Plan}
-use Rattle.plan.specs.Limits.{mostLines}
-use Rattle.plan.specs.Plan.{quantum, linePlan, chargeOf, planOk, trimmed}
+use Rattle.plan.specs.Ranges.{PlanIn}
+use Rattle.plan.specs.Plan.{quantum, linePlan, chargeOf, trimmed}
 use Rattle.theory.specs.Sending as S
 use Rattle.theory.specs.System.{sizes}
 use Rattle.theory.specs.Demands.{Lowest, Shows}
@@ -50,5 +50,5 @@ pub record Keeps (p : Plan) (packets : List (List ℕ)) (s : Sender) : Type 0 wh
 -- From any world whose sender is opened, after any calls, for the packets that its sends have answered to be on their way.
 abbrev pub EveryHistory : Type 0
 EveryHistory =
-    (p : Plan) → planOk p ≡ true → length (p .quanta) ≡ mostLines → (w : World) → w .sender ≡ openSender p .sender
+    (p : Plan) → PlanIn p → length (p .quanta) ≡ 16 → (w : World) → w .sender ≡ openSender p .sender
     → (h : List Call) → Keeps (trimmed p) (sentIn w h) (calls w h .sender)

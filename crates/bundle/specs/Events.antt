@@ -75,6 +75,47 @@ reportedBy line (behind i) = 0
 reportedBy line (waiting i) = 0
 reportedBy line (refused k) = 0
 
+-- the parcels put on a line
+abbrev pub putBy : ℕ → Event → List Parcel
+putBy line (sent i x due) = cond (eqb i line) (packet x ∷ []) []
+putBy line (marked i b) = cond (eqb i line) (marker b ∷ []) []
+putBy line (stored i x) = []
+putBy line (turned-away i x k) = []
+putBy line (lost i x) = []
+putBy line nothing = []
+putBy line (handed i b) = []
+putBy line (missing i m) = []
+putBy line (behind i) = []
+putBy line (waiting i) = []
+putBy line (refused k) = []
+
+-- those that have left it: stored, refused where they arrived, or lost on their way; the latter two are lost
+abbrev pub leftBy : ℕ → Event → List Parcel
+leftBy line (sent i x due) = []
+leftBy line (marked i b) = []
+leftBy line (stored i x) = cond (eqb i line) (x ∷ []) []
+leftBy line (turned-away i x k) = cond (eqb i line) (x ∷ []) []
+leftBy line (lost i x) = cond (eqb i line) (x ∷ []) []
+leftBy line nothing = []
+leftBy line (handed i b) = []
+leftBy line (missing i m) = []
+leftBy line (behind i) = []
+leftBy line (waiting i) = []
+leftBy line (refused k) = []
+
+abbrev pub lostBy : ℕ → Event → List Parcel
+lostBy line (sent i x due) = []
+lostBy line (marked i b) = []
+lostBy line (stored i x) = []
+lostBy line (turned-away i x k) = cond (eqb i line) (x ∷ []) []
+lostBy line (lost i x) = cond (eqb i line) (x ∷ []) []
+lostBy line nothing = []
+lostBy line (handed i b) = []
+lostBy line (missing i m) = []
+lostBy line (behind i) = []
+lostBy line (waiting i) = []
+lostBy line (refused k) = []
+
 -- the items stored on a line, and how many are taken from it
 abbrev pub asEntry : Parcel → Entry
 asEntry (packet b) = entry 0 b

@@ -2,3 +2,4 @@ mod Small
 mod Words
 mod Copies
 mod Determined
+mod Refusals

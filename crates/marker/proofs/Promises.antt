@@ -56,7 +56,7 @@ nine-bytes m line counter round =
     simp length-append
     (omega (arith, coded-size-of 32 7 (m .line) (omega arith) (omega arith) (omega arith), coded-size 32 (m .round) (omega arith) round, coded-size-of 32 21 (m .counter) (omega arith) (omega arith) (omega arith)))
 
--- ● of the specification: the session's markers after packet 5 are 00 02 A0 06 and 01 02 DE 02.
+-- An example: the session's markers after packet 5 are 00 02 A0 06 and 01 02 DE 02.
 pub examples :
     (markerBytes (record { line = 0; round = 2; counter = 800 }) ≡ 0x00 ∷ 0x02 ∷ 0xA0 ∷ 0x06 ∷ [])
     × (markerBytes (record { line = 1; round = 2; counter = 350 }) ≡ 0x01 ∷ 0x02 ∷ 0xDE ∷ 0x02 ∷ [])

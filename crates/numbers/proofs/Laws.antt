@@ -313,6 +313,14 @@ module _ (number : ℕ) (bytes out : List ℕ) where
       go true e = absurd (let z : _≡_ {A = ℕ} 0 1 = cc in omega arith)
       go false e = cc
 
+  pub refused-out : (k : ℕ) → outcome number bytes out .answer ≡ Refused k → outcome number bytes out .out ≡ out
+  unfolding outcome
+  refused-out k e = go (eqb number 0) e
+    where
+      go : (t : Bool) → settled t .answer ≡ Refused k → settled t .out ≡ out
+      go true e = absurd (let z : _≡_ {A = ℕ} 0 1 = cc in omega arith)
+      go false e = refl
+
   -- the front of the output, as long as was answered, is what was to be written
   pub accepted : writtenNumber (outcome number bytes out .answer) ≡ 0
       → (number ≡ 0) × (take (lengthOf (outcome number bytes out .answer)) (outcome number bytes out .out) ≡ bytes)

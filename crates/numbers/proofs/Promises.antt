@@ -39,7 +39,7 @@ later-bytes w s t v at e = ap yields (law.after w s (was (readingOf w s) e) t)
 pub five-bytes : (s : List ℕ) → readingOf 32 (take 5 s) ≡ readingOf 32 s
 five-bytes s = law.enough 32 5 s (omega arith) (omega arith)
 
--- ● of the specification: 127 is 7F; 128 is 80 01; 80 00 is refused. FF FF FF FF 0F is 4,294,967,295; FF FF FF FF 10 is refused.
+-- An example: 127 is 7F; 128 is 80 01; 80 00 is refused. FF FF FF FF 0F is 4,294,967,295; FF FF FF FF 10 is refused.
 pub examples :
     (coded 32 127 ≡ 0x7F ∷ []) × (coded 32 128 ≡ 0x80 ∷ 0x01 ∷ []) × (yields (readingOf 32 (0x80 ∷ 0x00 ∷ [])) ≡ [])
     × (yields (readingOf 32 (0xFF ∷ 0xFF ∷ 0xFF ∷ 0xFF ∷ 0x0F ∷ [])) ≡ 4294967295 ∷ 5 ∷ [])

@@ -1,57 +1,28 @@
 -- What the promises ask of a history, by tests that compute: nearness, room, and what the system's state has on two lines. Assumes nothing.
-use Prim.Native.Nat.{ℕ, zero, suc, _+_, _/_, _<_}
+use Prim.Native.Nat.{ℕ, zero, suc, _+_, _/_, _≤_, _<_}
+use native.Mathlib.Nat.{le-refl}
 use native.Mathlib.Omega.{arith}
-use mathlib.Core.Bool.{Bool, true, false, _&&_}
-use mathlib.Core.List.{List, [], _∷_, _++_, map}
+use mathlib.Core.Bool.{Bool, true, _&&_}
+use mathlib.Core.List.{List, [], _∷_, _++_, map, map-append, append-assoc}
 use mathlib.Core.Path.{_≡_, refl, sym, ap, _∙_, subst}
-use lib.Dec.{ltb, eqb}
+use lib.Dec.{ltb, leb, eqb}
 use lib.ListN.{length, getD, drop}
-use borrow.Author.Tests.{ltb-true, eqb-true}
+use borrow.Author.Tests.{ltb-true, leb-true, eqb-true}
 use Rattle.numbers.specs.Wrap.{half}
-use Rattle.numbers.proofs.Checks.{never, both}
+use Rattle.numbers.proofs.Checks.{both}
 use Rattle.plan.specs.declared.Plan.{Plan}
 use Rattle.theory.specs.Sending as S
+use Rattle.theory.specs.Demands.{Lowest}
 use Rattle.theory.specs.System.{Item, Line, State, Step, current, step}
 use Rattle.theory.specs.System as T
 use Rattle.theory.specs.FarEnd.{front, nearHead, nearStep}
 use Rattle.theory.specs.FarEnd as F
-use Rattle.receiving.specs.declared.Taken.{Taken}
+use Rattle.theory.proofs.Histories.{run-append}
 use Rattle.receiving.specs.declared.Taken.the-variants as taken
-use Rattle.receiving.specs.Taking.{takeOf}
 use Rattle.bundle.specs.Worlds.{World, Call, sends, asks, arrives, loses, takes, seen, call}
 use Rattle.bundle.specs.Log.{stepsOf, log}
-use Rattle.bundle.specs.Words.{Roomy, heldBelow}
-use Rattle.bundle.specs.Demands.{opened, theirs, system, Near}
-
--- ---- as many outputs as items held on n lines, and room in each
-
-abbrev goes : Taken → Bool
-goes (taken.Waiting i) = true
-goes (taken.Data i n) = true
-goes (taken.Missing i m) = true
-goes (taken.Behind i) = true
-goes (taken.Refused k) = false
-
-abbrev roomTest : World → List (List ℕ) → Bool
-roomTest w [] = true
-roomTest w (out ∷ outs) = goes (takeOf (w .receiver) (w .store) out .result .answer) && roomTest (call w (takes out)) outs
-
-roomy : (outs : List (List ℕ)) (w : World) → roomTest w outs ≡ true → Roomy w outs
-roomy [] w passed = tt
-roomy (out ∷ outs) w passed =
-    let b = both (goes (takeOf (w .receiver) (w .store) out .result .answer)) (roomTest (call w (takes out)) outs) passed in
-    (λ refused. never (sym (b .0) ∙ ap goes refused), roomy outs (call w (takes out)) (b .1))
-
-abbrev pub Enough : ℕ → World → List (List ℕ) → Type 0
-Enough n w outs = (length outs ≡ heldBelow w n) × Roomy w outs
-
-abbrev pub enoughTest : ℕ → World → List (List ℕ) → Bool
-enoughTest n w outs = eqb (length outs) (heldBelow w n) && roomTest w outs
-
-pub enough : (n : ℕ) (w : World) (outs : List (List ℕ)) → enoughTest n w outs ≡ true → Enough n w outs
-enough n w outs passed =
-    let b = both (eqb (length outs) (heldBelow w n)) (roomTest w outs) passed in
-    (eqb-true _ _ (b .0), roomy outs w (b .1))
+use Rattle.bundle.specs.Words.{andThen, RoomFor, heldBelow}
+use Rattle.bundle.specs.Demands.{opened, theirs, after, system, Near, Roomy}
 
 -- ---- a history in which nothing is refused: each call is logged as one step, and what is read off the steps holds of the log
 
@@ -144,3 +115,55 @@ module _ (p : Plan) (size : ℕ) (store : List ℕ) (h : List Call) (plain : Pla
   pub on-lines : (P : State → ℕ → Type 0) → P (F.after (theirs p size store) (plainSteps h)) 0 → P (F.after (theirs p size store) (plainSteps h)) 1
       → (i : ℕ) → i < 2 → P (system p size store h) i
   on-lines P first second = of-system (λ (s : State). (i : ℕ) → i < 2 → P s i) (on-both (P (F.after (theirs p size store) (plainSteps h))) first second)
+
+-- ---- of two lines, the first has the lowest round
+
+pub first-lowest : (p : S.Plan) → p .lines ≡ 2 → (v : ℕ → ℕ) → leb (S.rounds p v 0) (S.rounds p v 1) ≡ true → Lowest p v 0
+first-lowest p two v test = record {
+  is-line = omega arith;
+  lowest = λ j l. on-both (λ j. S.rounds p v 0 ≤ S.rounds p v j) (le-refl _) (leb-true _ _ test) j (omega arith);
+  on-tie = λ j l e. omega arith;
+}
+
+-- ---- as many outputs as items held, and room in each for what is in front then
+
+abbrev roomHead : List Item → List ℕ → Bool
+roomHead [] out = true
+roomHead (T.packet k x ∷ rest) out = leb (length x) (length out)
+roomHead (T.marker k m ∷ rest) out = true
+
+abbrev roomTest : S.Plan → State → List (List ℕ) → Bool
+roomTest p s [] = true
+roomTest p s (out ∷ outs) = roomHead (front p s .store) out && roomTest p (step p s T.take) outs
+
+room-for : (items : List Item) (out : List ℕ) → roomHead items out ≡ true → RoomFor items out
+room-for [] out passed = tt
+room-for (T.packet k x ∷ rest) out passed = leb-true _ _ passed
+room-for (T.marker k m ∷ rest) out passed = tt
+
+module _ (p : Plan) (size : ℕ) (store : List ℕ) where
+  roomy : (outs : List (List ℕ)) (h : List Call) → Plain (opened p size store) (h ++ map takes outs)
+      → roomTest (theirs p size store) (F.after (theirs p size store) (plainSteps h)) outs ≡ true → Roomy p size store h outs
+  roomy [] h plain passed = tt
+  roomy (out ∷ outs) h plain passed =
+      let q = theirs p size store in
+      let s : State = F.after q (plainSteps h) in
+      let b = both (roomHead (front q s .store) out) (roomTest q (step q s T.take) outs) passed in
+      let more : Plain (opened p size store) (andThen h (takes out) ++ map takes outs) = rw (append-assoc h (takes out ∷ []) (map takes outs)) plain in
+      let after-it : step q s T.take ≡ F.after q (plainSteps (andThen h (takes out))) =
+      sym (ap (T.run q T.atOpening) (map-append stepOf h (takes out ∷ [])) ∙ run-append q (plainSteps h) (T.take ∷ []) T.atOpening) in (
+        of-system p size store h (beginning h (takes out ∷ map takes outs) (opened p size store) plain) (λ s. RoomFor (front q s .store) out) (room-for (front q s .store) out (b .0)),
+        roomy outs (andThen h (takes out)) more (ap (λ (s : State). roomTest q s outs) (sym after-it) ∙ b .1),
+      )
+
+  abbrev pub Enough : List Call → List (List ℕ) → Type 0
+  Enough h outs = (length outs ≡ heldBelow (after p size store h) (p .lines)) × Roomy p size store h outs
+
+  abbrev pub enoughTest : List Call → List (List ℕ) → Bool
+  enoughTest h outs =
+      eqb (length outs) (heldBelow (after p size store h) (p .lines)) && roomTest (theirs p size store) (F.after (theirs p size store) (plainSteps h)) outs
+
+  pub enough : (h : List Call) (outs : List (List ℕ)) → Plain (opened p size store) (h ++ map takes outs) → enoughTest h outs ≡ true → Enough h outs
+  enough h outs plain passed =
+      let b = both (eqb (length outs) (heldBelow (after p size store h) (p .lines))) _ passed in
+      (eqb-true _ _ (b .0), roomy outs h plain (b .1))

@@ -7,7 +7,7 @@ use Rattle.numbers.specs.Checks.{allBelow}
 use Rattle.plan.specs.declared.Plan.{Plan}
 use Rattle.plan.specs.Plan.{planOk}
 
--- ● of the specification: 2 lines, Max 500, K 1, quanta 1000 and 500
+-- An example: 2 lines, Max 500, K 1, quanta 1000 and 500
 abbrev pub session : Plan
 session = record { lines = 2; max = 500; interval = 1; quanta = 1000 ∷ 500 ∷ replicate 14 0 }
 

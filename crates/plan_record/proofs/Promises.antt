@@ -121,7 +121,7 @@ fifty-four-bytes p good =
       coded-size-of 32 21 (p .interval) (omega arith) (omega arith) (omega arith),
     ))
 
--- ● of the specification: the session's plan is the record 02 F4 03 01 E8 07 F4 03.
+-- An example: the session's plan is the record 02 F4 03 01 E8 07 F4 03.
 abbrev pub sessionRecord : List ℕ
 sessionRecord = 0x02 ∷ 0xF4 ∷ 0x03 ∷ 0x01 ∷ 0xE8 ∷ 0x07 ∷ 0xF4 ∷ 0x03 ∷ []
 

@@ -1,14 +1,18 @@
 -- The laws of arrivals: an item that is stored once its ring has come back, and each arrival check by check. Assumes nothing.
-use mathlib.Core.Path.{_≡_, ap, sym, _∙_}
+use mathlib.Core.Path.{_≡_, refl, ap, sym, _∙_}
 use Prim.Native.Nat.{ℕ, _+_, _-_, _*_, _≤_, _<_}
 use native.Mathlib.Omega.{arith}
 use mathlib.Core.Bool.{Bool, true, false, cond}
 use mathlib.Core.List.{List}
+use lib.Dec.{ltb, eqb}
 use lib.ListN.{length}
-use borrow.Author.Tests.{leb-true, le-leb, lt-leb, lt-ltb, le-ltb, eq-eqb, ne-eqb}
+use borrow.Author.Tests.{eqb-true, eqb-false, leb-true, le-leb, lt-leb, lt-ltb, le-ltb, eq-eqb, ne-eqb}
+use Rattle.numbers.specs.Checks.{check, inRange}
+use Rattle.numbers.proofs.Checks.{check-passed, from-range}
 use Rattle.plan.specs.Limits.{mostStore, itemHead}
 use Rattle.plan.specs.Plan.{quantum}
 use Rattle.marker.specs.declared.Marker.{Marker}
+use Rattle.marker.specs.declared.MarkerRead.{MarkerRead}
 use Rattle.marker.specs.declared.MarkerRead.the-variants.{Whole, Refused}
 use Rattle.marker.specs.Marker.{numberOf}
 use Rattle.report.specs.Report.{markerOn}
@@ -17,7 +21,7 @@ use Rattle.ring.specs.Ring.{roomFor, stored as filledRing}
 use Rattle.receiving.specs.declared.Receiver.{Receiver}
 use Rattle.receiving.specs.declared.Arrived.{Arrived}
 use Rattle.receiving.specs.Receiver.{withHeld, receiverOk, storeFits, ringOf, withRing}
-use Rattle.receiving.specs.Arriving.{Arrival, placeOf, notStored, arrival, roomNumber, arrivalOf, dataNumber, dataArrival, markerNumber, markerArrival}
+use Rattle.receiving.specs.Arriving.{Arrival, placeOf, withItem, withStored, notStored, arrival, arrivalNumber, roomNumber, arrivalOf, dataNumber, dataArrival, markerNumber, markerArrival}
 use Rattle.receiving.proofs.Stores.{Place, lent, back, lent-is, back-is, back-same}
 
 -- ---- an item to be stored, once its ring has come back
@@ -132,3 +136,39 @@ module _ (r : Receiver) (i : ℕ) (b store : List ℕ) (good : receiverOk r ≡ 
 
   pub marker-stored : (m : Marker) → markerOn i (quantum (r .plan) i) b ≡ Whole m → arrival (roomNumber r i b) r i 1 b store ≡ markerArrival r i b store
   marker-stored m e = stored (markerNumber r i b) r i 1 b store good fits line (ap numberOf e)
+
+-- ---- an arrival that is accepted has passed the checks of its own kind
+
+module _ (r : Receiver) (i kind : ℕ) (b store : List ℕ) where
+  own-zero : (own : ℕ) → arrivalOf own r i kind b store .arrived .number ≡ 0 → own ≡ 0
+  unfolding arrivalOf arrival
+  own-zero own = go (eqb (arrivalNumber own r i b store) 0) refl
+    where
+      passed : arrivalNumber own r i b store ≡ 0 → own ≡ 0
+      passed e =
+          let state = check-passed (receiverOk r) 2 _ (omega arith) e in
+          let long = check-passed (storeFits r store) 9 _ (omega arith) (state .1) in
+          let line = check-passed (ltb i (r .plan .lines)) 3 _ (omega arith) (long .1) in
+          given-zero (eqb own 0) refl (line .1)
+        where
+          given-zero : (t : Bool) → eqb own 0 ≡ t → check t own (roomNumber r i b) ≡ 0 → own ≡ 0
+          given-zero true q z = eqb-true own 0 q
+          given-zero false q z = z
+
+      go : (t : Bool) → eqb (arrivalNumber own r i b store) 0 ≡ t
+          → cond {A = Arrival} t (record { arrived = record { number = 0; next = withItem r i (itemHead + length b) }; store = withStored r i kind b store })
+          (record { arrived = notStored r (arrivalNumber own r i b store); store = store }) .arrived .number ≡ 0 → own ≡ 0
+      go true q z = passed (eqb-true _ 0 q)
+      go false q z = absurd (eqb-false _ 0 q z)
+
+pub data-in-range : (r : Receiver) (i : ℕ) (b store : List ℕ) → dataArrival r i b store .arrived .number ≡ 0 → (1 ≤ length b) × (length b ≤ r .plan .max)
+data-in-range r i b store e =
+    from-range 1 (length b) (r .plan .max) (check-passed (inRange 1 (length b) (r .plan .max)) 4 0 (omega arith) (own-zero r i 0 b store (dataNumber r b) e) .0)
+
+pub marker-whole : (r : Receiver) (i : ℕ) (b store : List ℕ) → markerArrival r i b store .arrived .number ≡ 0
+    → (m : Marker) × (markerOn i (quantum (r .plan) i) b ≡ Whole m)
+marker-whole r i b store e = go (markerOn i (quantum (r .plan) i) b) refl (own-zero r i 1 b store (markerNumber r i b) e)
+  where
+    go : (t : MarkerRead) → markerOn i (quantum (r .plan) i) b ≡ t → numberOf t ≡ 0 → (m : Marker) × (markerOn i (quantum (r .plan) i) b ≡ Whole m)
+    go (Whole m) is z = (m, is)
+    go (Refused k) is z = absurd (some-number i (quantum (r .plan) i) b k is z)

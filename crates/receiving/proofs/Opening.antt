@@ -8,6 +8,8 @@ use lib.ListN.{length}
 use Rattle.numbers.proofs.Checks.{both}
 use Rattle.plan.specs.declared.Plan.{Plan}
 use Rattle.plan.specs.Limits.{mostLines}
+use Rattle.plan.specs.Ranges.{PlanIn, StoreIn}
+use Rattle.plan.proofs.Ranges.{plan-good, store-good}
 use Rattle.plan.specs.Plan.{quantum, planOk, storeOk, trimmed}
 use Rattle.plan.proofs.Laws.{in-range, trimmed-ok}
 use Rattle.ring.specs.Ring.{fromRing, held}
@@ -41,6 +43,11 @@ opened-valid p size sixteen good fits =
       current = found (p .lines) _ 1 0 (range .some-lines) (ap (λ (t : Turn). t .round) (first 0 (range .some-lines)));
     }
 
+-- it opens where the plan and S are in range
+pub opens-in : (p : Plan) (size : ℕ) → PlanIn p → StoreIn p size → openReceiver p size .number ≡ 0
+unfolding openReceiver
+opens-in p size plan room = simp (plan-good p plan, store-good p size room)
+
 module _ (p : Plan) (size : ℕ) (opens : openReceiver p size .number ≡ 0) where
   -- the plan and the size were in range
   checked : planOk p && storeOk p size ≡ true
@@ -49,6 +56,9 @@ module _ (p : Plan) (size : ℕ) (opens : openReceiver p size .number ≡ 0) whe
       go : (t : Bool) → planOk p && storeOk p size ≡ t → t ≡ true
       go true q = refl
       go false q = absurd (omega (arith, opens, ap (λ (o : ReceiverOpened). o .number) (not-opened p size q)))
+
+  pub plan-opened : planOk p ≡ true
+  plan-opened = both (planOk p) (storeOk p size) checked .0
 
   pub is-open : openReceiver p size .receiver ≡ openedReceiver p size
   is-open = sym (ap (λ (o : ReceiverOpened). o .receiver) (is-opened p size checked))

@@ -1,5 +1,5 @@
 -- The laws of a run of takes, take by take. Assumes nothing.
-use mathlib.Core.Path.{_≡_, refl, ap, sym, _∙_}
+use mathlib.Core.Path.{_≡_, refl, ap, _∙_}
 use Prim.Native.Nat.{ℕ, suc, _+_, _-_, _*_, _^_, _≤_, _<_}
 use native.Mathlib.Numerals.{add-one}
 use native.Mathlib.Omega.{arith}
@@ -7,15 +7,14 @@ use mathlib.Core.Bool.{true, false}
 use mathlib.Core.List.{List, [], _++_, append-nil}
 use lib.ListN.{length, take, drop, set, length-append, length-drop, take-append-drop, drop-of-length-le}
 use lib.Seq.{length-take-le}
+use borrow.Author.Tests.{ne-eqb}
 use Rattle.numbers.proofs.Laws.{rest}
 use Rattle.receiving.specs.declared.Receiver.{Receiver}
 use Rattle.receiving.specs.declared.TakeResult.{TakeResult}
-use Rattle.receiving.specs.declared.Ended.{Ended}
 use Rattle.receiving.specs.declared.Ended.the-variants as ended
 use Rattle.receiving.specs.Receiver.{receiverOk, storeFits}
-use Rattle.receiving.specs.Taking.{notTaken, takeOf}
+use Rattle.receiving.specs.Taking.{takeOf}
 use Rattle.receiving.specs.Takes.{wordOf, bytesOf, endOf, goesOn, stopped, takesFrom, takesOf}
-use Rattle.receiving.proofs.Taking.{state-refused, store-refused}
 use Rattle.receiving.proofs.Valid.{take-valid, refused-stays, still-fits, out-length, bytes-fit, small}
 
 module _ (store : List ℕ) (r : Receiver) (k at : ℕ) (out log : List ℕ) where
@@ -99,23 +98,15 @@ module _ (store : List ℕ) (r : Receiver) (k at : ℕ) (out log : List ℕ) (in
 -- ---- the checks before a run
 
 module _ (r : Receiver) (store out log : List ℕ) where
-  pub no-log : length log ≡ 0 → stopped ended.Full r 0 0 out log ≡ takesOf r store out log
+  pub bad-state : receiverOk r ≡ false → stopped (ended.Refused 2) r 0 0 out log ≡ takesOf r store out log
   unfolding takesOf
-  no-log e = run-full store r 0 0 out log (length log) e
+  bad-state e = simp e
 
-  module _ (some : length log ≡ 0 → ⊥) where
-    refused-first : (k : ℕ) → notTaken r k ≡ takeOf r store out .result → stopped (ended.Refused k) r 0 0 out log ≡ takesOf r store out log
+  module _ (good : receiverOk r ≡ true) where
+    pub bad-store : (length store ≡ r .plan .lines * r .rings .size → ⊥) → stopped (ended.Refused 9) r 0 0 out log ≡ takesOf r store out log
     unfolding takesOf
-    refused-first k e =
-        let one : length log ≡ suc (length log - 1) = omega arith in
-        let stop : goesOn (takeOf r store (drop 0 out) .result .answer) ≡ false = ap (λ (t : TakeResult). goesOn (t .answer)) (sym e) in
-        let end : ended.Refused k ≡ endOf (takeOf r store (drop 0 out) .result .answer) = ap (λ (t : TakeResult). endOf (t .answer)) e in
-        ap (λ (x : Ended). stopped x r 0 0 out log) end
-        ∙ run-ends store r 0 0 out log (length log - 1) stop
-        ∙ ap (λ (n : ℕ). takesFrom n store r 0 0 out log) (sym one)
+    bad-store h = simp (good, ne-eqb (length store) (r .plan .lines * r .rings .size) h)
 
-    pub bad-state : receiverOk r ≡ false → stopped (ended.Refused 2) r 0 0 out log ≡ takesOf r store out log
-    bad-state e = refused-first 2 (state-refused r store out e .0)
-
-    pub bad-store : receiverOk r ≡ true → (length store ≡ r .plan .lines * r .rings .size → ⊥) → stopped (ended.Refused 9) r 0 0 out log ≡ takesOf r store out log
-    bad-store good h = refused-first 9 (store-refused r store out good h .0)
+    pub run-of : storeFits r store ≡ true → takesFrom (length log) store r 0 0 out log ≡ takesOf r store out log
+    unfolding takesOf
+    run-of fits = simp (good, fits)

@@ -2,7 +2,7 @@
 -- front of the output. The log has a word for each take.
 use Prim.Native.Nat.{ℕ, zero, suc, _+_, _*_}
 use mathlib.Core.Bool.{Bool, true, false, cond}
-use mathlib.Core.List.{List, _++_}
+use mathlib.Core.List.{List, [], _∷_, _++_}
 use lib.ListN.{length, take, drop, set}
 use Rattle.receiving.specs.declared.Receiver.{Receiver}
 use Rattle.receiving.specs.declared.Taken.{Taken}
@@ -10,7 +10,19 @@ use Rattle.receiving.specs.declared.Taken.the-variants.{Waiting, Data, M
 use Rattle.receiving.specs.declared.Ended.{Ended}
 use Rattle.receiving.specs.declared.Ended.the-variants as ended
 use Rattle.receiving.specs.declared.TakesResult.{TakesResult}
+use Rattle.receiving.specs.Receiver.{receiverOk, storeFits}
 use Rattle.receiving.specs.Taking.{takeOf}
+
+-- the table's number that a run ends with, 0 for none; and the line that it waits for
+abbrev pub endedNumber : Ended → ℕ
+endedNumber ended.Full = 0
+endedNumber (ended.Waiting line) = 0
+endedNumber (ended.Refused k) = k
+
+abbrev pub endedValues : Ended → List ℕ
+endedValues ended.Full = []
+endedValues (ended.Waiting line) = line ∷ []
+endedValues (ended.Refused k) = []
 
 -- a take's word: what it was (0 data, 1 missing, 2 behind), 4 times its line, and 64 times the length or the bytes missing
 abbrev pub wordOf : Taken → ℕ
@@ -61,5 +73,9 @@ takesFrom (suc n) store r k at out log =
     (takesFrom n store (t .result .next) (suc k) (at + bytesOf (t .result .answer)) (take at out ++ t .out) (set log k (wordOf (t .result .answer))))
     (stopped (endOf (t .result .answer)) r k at out log)
 
+-- 2, 9 (length), before the log is looked at
 unfoldable pub takesOf : Receiver → List ℕ → List ℕ → List ℕ → Run
-takesOf r store out log = takesFrom (length log) store r 0 0 out log
+takesOf r store out log =
+    cond (receiverOk r)
+    (cond (storeFits r store) (takesFrom (length log) store r 0 0 out log) (stopped (ended.Refused 9) r 0 0 out log))
+    (stopped (ended.Refused 2) r 0 0 out log)

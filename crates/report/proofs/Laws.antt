@@ -8,7 +8,7 @@ use lib.Dec.{ltb, eqb}
 use borrow.Author.Tests.{ltb-true, ltb-false, lt-ltb, le-ltb, le-leb, lt-leb, eq-eqb, ne-eqb, eqb-true}
 use Rattle.numbers.specs.Checks.{inRange}
 use Rattle.numbers.specs.Wrap.{wrap, half}
-use Rattle.numbers.proofs.Checks.{check-passed, from-range}
+use Rattle.numbers.proofs.Checks.{in-range as is-in-range, check-passed, from-range}
 use Rattle.marker.specs.declared.Marker.{Marker}
 use Rattle.marker.specs.declared.MarkerRead.{MarkerRead}
 use Rattle.marker.specs.declared.MarkerRead.the-variants.{Whole, Refused}
@@ -54,6 +54,12 @@ on-line line q s m e = go (recordRead s) refl e
         let j = judge-passed (onNumber line q n) n m e in
         let p = passed line q n (j .0) in
         rw (← j .1) (h, p .0, p .1, p .2)
+
+-- and one that is read, and holds there, is read on it
+pub read-on-line : (line q : ℕ) (s : List ℕ) (m : Marker) → recordRead s ≡ Whole m → 1 ≤ m .counter → m .counter ≤ q → m .line ≡ line
+    → markerOn line q s ≡ Whole m
+unfolding markerOn
+read-on-line line q s m e least most own = rw e (sym (both-good line q m (is-in-range 1 (m .counter) q least most) own))
 
 -- a marker that is refused on its line is refused by a number
 pub some-number : (i q : ℕ) (b : List ℕ) (k : ℕ) → markerOn i q b ≡ Refused k → k ≡ 0 → ⊥

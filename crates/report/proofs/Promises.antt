@@ -4,7 +4,7 @@ use Rattle.marker.specs.Marker.{markerOf}
 use Rattle.report.specs.declared.Report.the-variants.{Missing, Behind}
 use Rattle.report.specs.Report.{ahead, reportOf}
 
--- ● of the specification: line round 4,294,967,295 and marker round 1: ahead 2. Ahead 2^31 − 1 is taken, 2^31 gives 11. Same round and same
+-- An example: line round 4,294,967,295 and marker round 1: ahead 2. Ahead 2^31 − 1 is taken, 2^31 gives 11. Same round and same
 -- counter: taken, missing 0; counter one higher: 11.
 pub examples :
     (ahead 1 4294967295 ≡ 2)

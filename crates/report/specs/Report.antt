@@ -1,7 +1,7 @@
 -- What a marker tells the line that it came on: whether it can be one there, and what is missing.
 use Prim.Native.Nat.{ℕ, _+_, _-_, _*_, _%_}
 use mathlib.Core.Bool.{Bool, _&&_, _||_, cond}
-use mathlib.Core.List.{List}
+use mathlib.Core.List.{List, [], _∷_}
 use lib.Dec.{ltb, leb, eqb}
 use Rattle.numbers.specs.Checks.{check, inRange}
 use Rattle.numbers.specs.Wrap.{wrap, half}
@@ -10,6 +10,15 @@ use Rattle.marker.specs.declared.MarkerRead.{MarkerRead}
 use Rattle.marker.specs.Marker.{recordRead, judged}
 use Rattle.report.specs.declared.Report.{Report}
 use Rattle.report.specs.declared.Report.the-variants.{Missing, Behind}
+
+-- the table's number that a report gives, 0 for none; and the bytes missing
+abbrev pub reportNumber : Report → ℕ
+reportNumber (Missing x) = 0
+reportNumber Behind = 11
+
+abbrev pub reportValues : Report → List ℕ
+reportValues (Missing x) = x ∷ []
+reportValues Behind = 0 ∷ []
 
 -- ---- a marker on a line of quantum q: 5, 6
 

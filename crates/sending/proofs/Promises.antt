@@ -1,6 +1,6 @@
 -- What the sender promises of one call: valid stays valid; and the session on paper, computed. (Of every history of calls: `bundle`.) Assumes nothing.
 use mathlib.Core.Path.{_≡_, refl}
-use Prim.Native.Nat.{ℕ, _+_}
+use Prim.Native.Nat.{ℕ, _+_, _<_}
 use mathlib.Core.Bool.{Bool, true, false, cond}
 use mathlib.Core.List.{List, [], _∷_}
 use lib.ListN.{length, replicate}
@@ -13,8 +13,10 @@ use Rattle.numbers.proofs.Checks.{check-passed}
 use Rattle.plan.specs.declared.Plan.{Plan}
 use Rattle.plan.specs.Limits.{mostLines}
 use Rattle.plan.specs.Plan.{at, quantum, planOk, countersOk, chargeOf}
+use Rattle.plan.proofs.Laws.{in-range}
 use Rattle.plan.proofs.Promises.{session}
 use Rattle.sending.specs.declared.Sender.{Sender}
+use Rattle.sending.specs.declared.Sent.the-variants.{Went, Refused}
 use Rattle.sending.specs.declared.SendResult.{SendResult}
 use Rattle.sending.specs.Sender.{sentValues, senderOk, openSender, nextSender, went, notSent, chargeNow, sendNumber, sendOf, lineMarker}
 use Rattle.sending.proofs.Laws.{valid, is-valid}
@@ -35,7 +37,31 @@ stays-valid s size good = go (eqb (sendNumber s size) 0) refl
         let c = check-passed (ltb (chargeNow s size) (at (s .counters) (s .line) + quantum (s .plan) (s .line))) 10 0 (omega arith) covered .0 in
         is-valid (nextSender s (chargeNow s size)) (next-valid s (valid s good) (chargeNow s size) (ltb-true _ _ c))
 
--- ---- ● of the specification, computed
+-- A refused send hands back the state; one that went, went on a line.
+module _ (s : Sender) (size : ℕ) where
+  abbrev result : Bool → SendResult
+  result t = cond t (went s (chargeNow s size)) (notSent s (sendNumber s size))
+
+  pub refused-stays : (k : ℕ) → sendOf s size .answer ≡ Refused k → sendOf s size .next ≡ s
+  unfolding sendOf
+  refused-stays k = go (eqb (sendNumber s size) 0)
+    where
+      go : (t : Bool) → result t .answer ≡ Refused k → result t .next ≡ s
+      go true e = absurd (let z : _≡_ {A = ℕ} 0 1 = cc in omega arith)
+      go false e = refl
+
+  pub sent-on-line : (line : ℕ) (due : Bool) → sendOf s size .answer ≡ Went line due → line < 16
+  unfolding sendOf sendNumber
+  sent-on-line line due = go (eqb (sendNumber s size) 0) refl
+    where
+      go : (t : Bool) → eqb (sendNumber s size) 0 ≡ t → result t .answer ≡ Went line due → line < 16
+      go true q e =
+          let v = valid s (check-passed (senderOk s) 2 _ (omega arith) (eqb-true (sendNumber s size) 0 q) .0) in
+          let is : s .line ≡ line = cc in
+          omega (arith, v .is-line, in-range (s .plan) (v .plan) .few-lines)
+      go false q e = absurd (let z : _≡_ {A = ℕ} 0 1 = cc in omega arith)
+
+-- ---- examples, computed
 
 -- the values of the answers to some sends, and the state after them
 abbrev answers : Sender → List ℕ → List (List ℕ)

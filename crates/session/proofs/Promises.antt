@@ -1,25 +1,27 @@
--- What a session promises: how the text is cut into pieces cannot matter, a call of feed is that much of the text, and the session on
--- paper prints its table. Assumes nothing.
-use borrow.Author.Tests.{ltb-true, lt-ltb, le-ltb, le-leb}
+-- What a session promises: how the text is cut into pieces cannot matter, a call of feed is that much of the text, the whole text prints
+-- the table of its lines, and so does the session on paper. Assumes nothing.
+use borrow.Author.Tests.{ltb-true, le-ltb}
 use native.Mathlib.Omega.{arith}
-use native.Mathlib.Nat.{zero-add, add-zero}
-use native.Mathlib.Numerals.{add-one}
 use mathlib.Core.Logic.{_⊎_, inl, inr}
 use mathlib.Core.Path.{_≡_, refl, ap, sym, _∙_}
 use mathlib.Core.Bool.{Bool, true, false, cond}
-use mathlib.Core.List.{List, [], _∷_, _++_, append-assoc}
+use mathlib.Core.List.{List, [], _∷_, _++_, append-nil, append-assoc, flatten}
 use Prim.Native.Nat.{ℕ, suc, _+_, _-_, _≤_, _<_}
-use lib.Dec.{ltb, eqb}
-use lib.ListN.{length, take, drop, set, length-append}
-use lib.Seq.{sets, sets-eq, take-append-seam}
+use lib.Dec.{ltb}
+use lib.ListN.{length, take, drop, length-append, length-take, take-append-drop}
+use lib.Seq.{take-take}
 use Rattle.numbers.specs.Checks.{allBelow}
 use Rattle.plan.specs.Plan.{planOk, countersOk, chargeOf}
 use Rattle.sending.specs.Sender.{senderOk, nextSender, sendNumber, sendOf}
-use Rattle.text.specs.Text.{lineFeed, saidFrom, digitsOf}
-use Rattle.table.specs.declared.Table.{Table}
+use Rattle.text.specs.Text.{saidFrom, digitsOf}
 use Rattle.table.specs.Table.{mostText, row, planGood, planLine, packetLine, lineOf}
 use Rattle.session.specs.declared.Session.{Session}
-use Rattle.session.specs.Session.{mostLine, Fed, openLine, heard, lineMade, keepByte, hasEnded, byteOf, before, textOf, endOf, printed, Taken, oneMore, feedOf}
+use Rattle.session.specs.Session.{Fed, begun, byteOf, before, textOf, endOf, printed, Taken, oneMore, feedOf, closeOf}
+use Rattle.session.specs.Lines.{cut, tableOf, tableOfText, Call, runOf, PrintsItsTable, EndsItsTable}
+use Rattle.session.proofs.ByLines.{closed, ended-prints, by-lines}
+
+before-both : (x y : List ℕ) (f : Fed) → before x (before y f) ≡ before (x ++ y) f
+before-both x y f = ap (λ (t : List ℕ). record { session = f .session; text = t }) (sym (append-assoc x y (f .text)))
 
 -- The text in two pieces is the text whole.
 pub pieces : (s : Session) (a b : List ℕ) → textOf s (a ++ b) ≡ before (textOf s a .text) (textOf (textOf s a .session) b)
@@ -28,40 +30,7 @@ pieces s [] b = refl
 pieces s (x ∷ a) b =
     let f = byteOf s x in
     let g = textOf (f .session) a in
-    ap (before (f .text)) (pieces (f .session) a b)
-    ∙ ap (λ (t : List ℕ). record { session = textOf (g .session) b .session; text = t }) (sym (append-assoc (f .text) (g .text) (textOf (g .session) b .text)))
-
--- ---- one line of text in, one line of table out
-
--- no byte of a line is a line feed
-abbrev pub NoFeed : List ℕ → Type 0
-NoFeed [] = Unit {0}
-NoFeed (b ∷ line) = (eqb b lineFeed ≡ false) × NoFeed line
-
-abbrev holding : Table → ℕ → List ℕ → Session
-holding t kept line = record { table = t; kept = kept; line = line }
-
--- the bytes of a line are kept until its end
-kept : (t : Table) → hasEnded (t .stage) ≡ false → (line rest : List ℕ) (k : ℕ) (buffer : List ℕ) → NoFeed line → k + length line ≤ mostLine
-    → textOf (holding t k buffer) (line ++ rest) ≡ textOf (holding t (k + length line) (sets buffer k line)) rest
-unfolding textOf byteOf keepByte
-kept t going [] rest k buffer none fits = rw add-zero
-kept t going (b ∷ line) rest k buffer none fits =
-    rw (going, none .0, lt-ltb k mostLine (omega arith), add-one)
-    (kept t going line rest (suc k) (set buffer k b) (none .1) (omega arith)
-    ∙ ap (λ (n : ℕ). textOf (holding t n (sets (set buffer k b) (suc k) line)) rest) (omega arith))
-
--- A line and its line feed make the line of table that `lineOf` says, and then comes the rest of the text. (The open line's buffer has 208
--- bytes; what an ended line left in it is never looked at.)
-pub line-by-line : (t : Table) (buffer line rest : List ℕ) → hasEnded (t .stage) ≡ false → length buffer ≡ mostLine → NoFeed line → length line ≤ mostLine
-    → textOf (openLine t buffer) (line ++ (lineFeed ∷ rest))
-    ≡ before (lineOf t line .text) (textOf (openLine (lineOf t line .table) (sets buffer 0 line)) rest)
-unfolding textOf byteOf lineMade heard lineOf
-line-by-line t buffer line rest going size none fits =
-    let front : take (length line) (sets buffer 0 line) ≡ line =
-    ap (take (length line)) (sets-eq line buffer 0 (omega arith)) ∙ take-append-seam line (drop (0 + length line) buffer) in
-    kept t going line (lineFeed ∷ rest) 0 buffer none (omega arith)
-    ∙ rw (zero-add, going, le-leb (length line) mostLine fits, front)
+    ap (before (f .text)) (pieces (f .session) a b) ∙ before-both (f .text) (g .text) (textOf (g .session) b)
 
 -- What is used of a piece makes the session and the text of the answer,
 pub fed : (s : Session) (bytes : List ℕ) (room : ℕ)
@@ -116,11 +85,50 @@ within s (b ∷ bytes) room = go (ltb room mostText) (within (byteOf s b .sessio
     g : Taken
     g = feedOf (byteOf s b .session) bytes (room - length (byteOf s b .text))
 
-    go : (t : Bool) → g .used ≤ length bytes → cond {A = Taken} t (record { session = s; used = 0; text = [] }) (oneMore (byteOf s b .text) g) .used ≤ length (b ∷ bytes)
+    go : (t : Bool) → g .used ≤ length bytes
+        → cond {A = Taken} t (record { session = s; used = 0; text = [] }) (oneMore (byteOf s b .text) g) .used ≤ length (b ∷ bytes)
     go true ih = omega arith
     go false ih = omega arith
 
--- ● of the specification: the session on paper, and the table that it prints.
+-- a feed of some of a text, and then what is left of it, make what the whole text makes
+feed-left : (s : Session) (text : List ℕ) (c : Call)
+    → let f = feedOf s (take (c .size) text) (c .room) in textOf s text ≡ before (f .text) (textOf (f .session) (drop (f .used) text))
+feed-left s text c =
+    let piece = take (c .size) text in
+    let f = feedOf s piece (c .room) in
+    let front : take (f .used) piece ≡ take (f .used) text =
+    take-take (f .used) (c .size) text (omega (arith, within s piece (c .room), length-take (c .size) text)) in
+    ap (textOf s) (sym (take-append-drop (f .used) text)) ∙ pieces s (take (f .used) text) (drop (f .used) text)
+    ∙ ap (λ (g : Fed). before (g .text) (textOf (g .session) (drop (f .used) text))) (ap (textOf s) (sym front) ∙ fed s piece (c .room))
+
+-- and so do any feeds
+runs : (s : Session) (text : List ℕ) (calls : List Call) → let r = runOf s text calls in textOf s text ≡ before (r .wrote) (textOf (r .session) (r .left))
+unfolding runOf
+runs s text [] = refl
+runs s text (c ∷ calls) =
+    let f = feedOf s (take (c .size) text) (c .room) in
+    let r = runOf (f .session) (drop (f .used) text) calls in
+    feed-left s text c ∙ ap (before (f .text)) (runs (f .session) (drop (f .used) text) calls)
+    ∙ before-both (f .text) (r .wrote) (textOf (r .session) (r .left))
+
+-- However a text comes in, it prints the table of its lines,
+pub prints-its-table : PrintsItsTable
+unfolding closeOf printed textOf
+prints-its-table text calls room none h =
+    let r = runOf begun text calls in
+    let all : textOf begun text ≡ record { session = r .session; text = r .wrote } = runs begun text calls ∙ rw (none, append-nil) in
+    rw (le-ltb room mostText h) (ap closed (sym all) ∙ by-lines text)
+
+-- and nothing behind the first refusal.
+pub ends-its-table : EndsItsTable
+unfolding printed
+ends-its-table text calls e =
+    let r = runOf begun text calls in
+    let f = textOf (r .session) (r .left) in
+    sym (append-nil (r .wrote)) ∙ ap (λ (l : List ℕ). r .wrote ++ l) (sym (ended-prints (r .session) e (r .left)))
+    ∙ sym (append-assoc (r .wrote) (f .text) (endOf (f .session) .text)) ∙ ap closed (sym (runs begun text calls)) ∙ by-lines text
+
+-- An example: the session on paper, and the table that it prints.
 abbrev pub paper : List ℕ
 paper =
     50 ∷ 32 ∷ 53 ∷ 48 ∷ 48 ∷ 32 ∷ 49 ∷ 32 ∷ 49 ∷ 48 ∷ 48 ∷ 48 ∷ 32 ∷ 53 ∷ 48 ∷ 48 ∷ 10 ∷
@@ -145,6 +153,10 @@ table =
     55 ∷ 32 ∷ 53 ∷ 48 ∷ 48 ∷ 32 ∷ 48 ∷ 32 ∷ 50 ∷ 32 ∷ 51 ∷ 48 ∷ 48 ∷ 32 ∷ 45 ∷ 10 ∷
     56 ∷ 32 ∷ 49 ∷ 48 ∷ 48 ∷ 32 ∷ 49 ∷ 32 ∷ 50 ∷ 32 ∷ 51 ∷ 53 ∷ 48 ∷ 32 ∷ 45 ∷ 10 ∷ []
 
+pub example-by-lines : tableOfText paper ≡ table
+unfolding cut tableOf flatten lineOf planLine planGood packetLine row saidFrom digitsOf planOk allBelow
+    sendOf sendNumber senderOk countersOk nextSender chargeOf
+example-by-lines = refl
+
 pub example : printed paper ≡ table
-unfolding printed textOf endOf byteOf keepByte lineMade heard planLine planGood packetLine row saidFrom digitsOf planOk allBelow sendOf sendNumber senderOk countersOk nextSender chargeOf
-example = refl
+example = by-lines paper ∙ example-by-lines

@@ -1,4 +1,5 @@
--- The whole text, byte by byte: the open line is kept until its end, and each end of a line makes one line of table.
+-- The whole text, byte by byte: the open line is kept until its end, and each end of a line makes one line of table. Lines.antt says what
+-- that prints, by lines.
 use mathlib.Core.Bool.{Bool, true, false, cond}
 use mathlib.Core.List.{List, [], _∷_, _++_}
 use Prim.Native.Nat.{ℕ, suc, _+_, _-_}
@@ -11,8 +12,8 @@ use Rattle.table.specs.declared.Table.{Table}
 use Rattle.table.specs.Table.{mostText, Made, noTable, saidAt}
 use Rattle.session.specs.declared.Session.{Session}
 
--- no line of text that can be good is longer: N, Max, K and the quanta of sixteen lines, nineteen numbers of ten digits, one space apart;
--- `limits` of src/lib.rt ties it to the constant of `Session`
+-- no line of text that can be good is longer (`LongLinesAreBad`): N, Max, K and the quanta of sixteen lines, nineteen numbers of ten digits,
+-- one space apart; `limits` of src/lib.rt ties it to the constant of `Session`
 abbrev pub mostLine : ℕ
 mostLine = 208
 

@@ -1,5 +1,5 @@
 // The session on paper: a plan and packet lengths as text, a table of the sender's choices as text. Bytes go in as they come, in pieces
-// of any size; one line of text makes one line of table. The definitions are in specs/: Session.
+// of any size; one line of text makes one line of table. The definitions are in specs/: Session, by bytes; Lines, by lines.
 use table::Stage;
 use table::Step;
 use table::Table;

@@ -19,7 +19,8 @@ use Rattle.receiving.specs.Arriving.{Arrival, dataArrival, markerArrival}
 use Rattle.receiving.specs.Taking.{takeOf}
 use Rattle.receiving.specs.Takes.{takesOf}
 use Rattle.taking.specs.Words.{takenWord}
-use Rattle.stage.specs.Exports.{openFrom}
+use Rattle.stage.specs.declared.StageRun.{StageRun}
+use Rattle.stage.specs.Exports.{openFrom, stageRun}
 use Rattle.stage.proofs.stage_open as thin-open
 use Rattle.stage.proofs.stage_data as thin-data
 use Rattle.stage.proofs.stage_marker as thin-marker
@@ -83,22 +84,22 @@ pub take-tight : (r : Receiver) (store out : List ℕ) (w w′ : ℕ) (next next
     → TakeSays r store out w next end → TakeSays r store out w′ next′ end′ → (w ≡ w′) × (next ≡ next′) × (end ≡ end′)
 take-tight r store out w w′ next next′ end end′ p q = (only (p .0) (q .0), only (p .1) (q .1), only (p .2) (q .2))
 
--- ---- a run of takes: how many there were, and the receiver, the output and the log as it leaves them
+-- ---- a run of takes: why it ended, the takes and the bytes, and the receiver, the output and the log as it leaves them
 
-abbrev TakesSay : Receiver → List ℕ → List ℕ → List ℕ → ℕ → Receiver → List ℕ → List ℕ → Type 0
-TakesSay r store out log k next end words =
-    (k ≡ takesOf r store out log .result .taken) × (next ≡ takesOf r store out log .result .next) × (end ≡ takesOf r store out log .out)
+abbrev TakesSay : Receiver → List ℕ → List ℕ → List ℕ → StageRun → Receiver → List ℕ → List ℕ → Type 0
+TakesSay r store out log s next end words =
+    (s ≡ stageRun (takesOf r store out log .result)) × (next ≡ takesOf r store out log .result .next) × (end ≡ takesOf r store out log .out)
     × (words ≡ takesOf r store out log .log)
 
 pub takes-clause :
     {M : Type 1} (𝓤 : URA M) (H : Heap 𝓤) (A : Atoms 𝓤) (mem : Memory → SProp 𝓤) (run : Routine → Fun 𝓤) (κs : Lfts 4)
-    (a : Args thin-takes.signature κs) (k : ℕ) (e : AtExit thin-takes.ended κs)
-    → thin-takes.clauses 𝓤 H A mem run κs a .ensures tt k e
-    ≡ fact 𝓤 (TakesSay (a .0 .now) (a .1 .0 .now) (a .1 .1 .0 .now) (a .1 .1 .1 .0 .now) k (e .0 .now) (e .1 .1 .0 .now) (e .1 .1 .1 .0 .now))
-takes-clause 𝓤 H A mem run κs a k e = refl
+    (a : Args thin-takes.signature κs) (s : StageRun) (e : AtExit thin-takes.ended κs)
+    → thin-takes.clauses 𝓤 H A mem run κs a .ensures tt s e
+    ≡ fact 𝓤 (TakesSay (a .0 .now) (a .1 .0 .now) (a .1 .1 .0 .now) (a .1 .1 .1 .0 .now) s (e .0 .now) (e .1 .1 .0 .now) (e .1 .1 .1 .0 .now))
+takes-clause 𝓤 H A mem run κs a s e = refl
 
-pub takes-tight : (r : Receiver) (store out log : List ℕ) (k k′ : ℕ) (next next′ : Receiver) (end end′ words words′ : List ℕ)
-    → TakesSay r store out log k next end words → TakesSay r store out log k′ next′ end′ words′
-    → (k ≡ k′) × (next ≡ next′) × (end ≡ end′) × (words ≡ words′)
-takes-tight r store out log k k′ next next′ end end′ words words′ p q =
+pub takes-tight : (r : Receiver) (store out log : List ℕ) (s s′ : StageRun) (next next′ : Receiver) (end end′ words words′ : List ℕ)
+    → TakesSay r store out log s next end words → TakesSay r store out log s′ next′ end′ words′
+    → (s ≡ s′) × (next ≡ next′) × (end ≡ end′) × (words ≡ words′)
+takes-tight r store out log s s′ next next′ end end′ words words′ p q =
     (only (p .0) (q .0), only (p .1) (q .1), only (p .2) (q .2), only (p .3) (q .3))

@@ -1,3 +1,4 @@
 mod Arrivals
 mod Words
 mod Determined
+mod Refusals

@@ -1,5 +1,5 @@
 // What the stage's driver, written in C, calls: the receiver that it holds. Each export copies the state out, calls one proved function, stores
-// the next state back and answers one number; include/stage.h is the other side. The definitions are in specs/Exports.antt.
+// the next state back and answers one number, a run of takes three; include/stage.h is the other side. The definitions are in specs/Exports.antt.
 use receiving::Receiver;
 use receiving::ReceiverOpened;
 ghost use mathlib.Core.Path.{_≡_};
@@ -7,7 +7,7 @@ ghost use Rattle.receiving.specs.Arriving.{dataArrival, markerArrival};
 ghost use Rattle.receiving.specs.Taking.{takeOf};
 ghost use Rattle.receiving.specs.Takes.{takesOf};
 ghost use Rattle.taking.specs.Words.{takenWord};
-ghost use Rattle.stage.specs.Exports.{openFrom, codedTake};
+ghost use Rattle.stage.specs.Exports.{openFrom, codedTake, stageRun, codedRun};
 
 // A receiver opened on the plan of a record. A record that is refused reads as an all-zero plan, on which no receiver opens.
 fn open_from(bytes: &[u8], size: u32) -> ReceiverOpened
@@ -82,21 +82,52 @@ pub extern "C" fn stage_take(r: &mut Receiver, store: &[u8], out: &mut [u8]) -> 
     t.word
 }
 
-// A run of takes, until one waits or is refused, or the log is full: how many there were. Their words are in the log, and their packets one
-// behind another at the front of out.
+// What a run of takes answers to C: 0 where the log is full, or else the word of the take that stopped it; how many takes there were, and how many
+// bytes they wrote.
+#[repr(C)]
+pub struct StageRun {
+    pub why: u64,
+    pub taken: usize,
+    pub bytes: usize,
+}
+
+// That, and the next state.
+struct CodedRun {
+    run: StageRun,
+    next: Receiver,
+}
+
+fn coded_run(r: Receiver, store: &[u8], out: &mut [u8], log: &mut [u64]) -> CodedRun
+    ensures { λ t. ⌜ (t ≡ codedRun (takesOf r (now (store .entry)) (now (out .entry)) (now (log .entry)) .result))
+        × (now (out .exit) ≡ takesOf r (now (store .entry)) (now (out .entry)) (now (log .entry)) .out)
+        × (now (log .exit) ≡ takesOf r (now (store .entry)) (now (out .entry)) (now (log .entry)) .log) ⌝ }
+{
+    let t = taking::take_run(r, store, out, log);
+    let ended = t.ended;
+    let next = t.next;
+    let run = StageRun {
+        why: taking::ended_word(ended),
+        taken: t.taken,
+        bytes: t.bytes,
+    };
+    CodedRun { run, next }
+}
+
+// A run of takes, until one waits or is refused, or the log is full. Their words are in the log, and their packets one behind another at the front
+// of out. Refused: 2, 9 before the log is looked at; by 8 the run ends at a packet that is longer than what is left of out behind the bytes written.
 #[no_mangle]
 pub extern "C" fn stage_takes(
     r: &mut Receiver,
     store: &[u8],
     out: &mut [u8],
     log: &mut [u64],
-) -> usize
-    ensures { λ k. ⌜ (k ≡ takesOf (now (r .entry)) (now (store .entry)) (now (out .entry)) (now (log .entry)) .result .taken)
+) -> StageRun
+    ensures { λ s. ⌜ (s ≡ stageRun (takesOf (now (r .entry)) (now (store .entry)) (now (out .entry)) (now (log .entry)) .result))
         × (now (r .exit) ≡ takesOf (now (r .entry)) (now (store .entry)) (now (out .entry)) (now (log .entry)) .result .next)
         × (now (out .exit) ≡ takesOf (now (r .entry)) (now (store .entry)) (now (out .entry)) (now (log .entry)) .out)
         × (now (log .exit) ≡ takesOf (now (r .entry)) (now (store .entry)) (now (out .entry)) (now (log .entry)) .log) ⌝ }
 {
-    let t = taking::take_run(*r, store, out, log);
+    let t = coded_run(*r, store, out, log);
     *r = t.next;
-    t.taken
+    t.run
 }

@@ -30,7 +30,7 @@ ghost use Rattle.receiving.specs.Receiver.{lineOf, receiverOk, storeFits};
 ghost use Rattle.receiving.specs.Taking.{past, chargedTurn, dataHead, markerHead, itemOn, toldStep, stepOf, lineStep, roundNow, withLine, notTaken, takeOf};
 ghost use Rattle.receiving.specs.Takes.{bytesOf, endOf, goesOn, takesOf};
 ghost use Rattle.receiving.specs.Ready.{Ready};
-ghost use Rattle.taking.specs.Words.{takenWord};
+ghost use Rattle.taking.specs.Words.{takenWord, endedWord};
 
 // No marker is longer: three numbers of at most five bytes.
 const LONGEST_MARKER: usize = 15;
@@ -366,6 +366,17 @@ pub fn word_of(answer: Taken) -> u64
     }
 }
 
+// How a run ended as a word: 0 where the log is full, which is no take's word, since a packet has a length; else the word of the take that stopped it.
+pub fn ended_word(ended: Ended) -> u64
+    ensures { λ w. ⌜ w ≡ endedWord ended ⌝ }
+{
+    match ended {
+        Ended::Full => 0,
+        Ended::Waiting(line) => word_of(Taken::Waiting(line)),
+        Ended::Refused(number) => word_of(Taken::Refused(number)),
+    }
+}
+
 fn run_ended(ended: Ended, taken: usize, bytes: usize, r: Receiver) -> TakesResult
     ensures { λ t. ⌜ t ≡ record { ended = ended; taken = taken; bytes = bytes; next = r } ⌝ }
 {
@@ -405,14 +416,13 @@ fn run_checked(r: Receiver, store: &[u8], out: &mut [u8], log: &mut [u64]) -> Ta
 
 // Takes, one after another, until one waits or is refused, or the log is full. The packets lie one behind another at the front of out, and
 // the log has a word for each take: what it was (0 data, 1 missing, 2 behind), 4 times its line, and 64 times the length or the bytes missing.
+// Refused: 2, 9 before the log is looked at. Ended by 8: the next packet is longer than what is left of out behind the bytes written, and by 9: the
+// next item cannot be one; what was taken before stands.
 pub fn take_run(r: Receiver, store: &[u8], out: &mut [u8], log: &mut [u64]) -> TakesResult
     ensures { λ t. ⌜ (t ≡ takesOf r (now (store .entry)) (now (out .entry)) (now (log .entry)) .result)
         × (now (out .exit) ≡ takesOf r (now (store .entry)) (now (out .entry)) (now (log .entry)) .out)
         × (now (log .exit) ≡ takesOf r (now (store .entry)) (now (out .entry)) (now (log .entry)) .log) ⌝ }
 {
-    if log.len() == 0 {
-        return run_ended(Ended::Full, 0, 0, r);
-    }
     if !receiver::is_valid(r) {
         return run_ended(Ended::Refused(2), 0, 0, r);
     }

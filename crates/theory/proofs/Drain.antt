@@ -93,10 +93,16 @@ kept p Q s keeps was =
     at-all (λ (j : ℕ) (l : Line). j < p .lines → Q j l) (current p s) (fetched p (current p s)) (s .line)
     (λ l. keeps (was (current p s) l)) (λ j ne l. was j l)
 
--- nothing is lost on a line, and nothing is under way
+-- items without a packet count nothing
+pub none-total : (f : ℕ → List ℕ → ℕ) (xs : List Item) → NoPacketIn xs → total f xs ≡ 0
+none-total f [] none = refl
+none-total f (packet j x ∷ rest) none = absurd none
+none-total f (marker j m ∷ rest) none = none-total f rest none
+
+-- nothing is lost on a line, and no packet is under way
 pub record Whole (l : Line) : Type 0 where
   pub lossless : l .lost ≡ []
-  pub arrives : l .road ≡ []
+  pub arrives : NoPacketIn (l .road)
 
 whole-take : (p : Plan) (i : ℕ) (l : Line) (w : List Item) → Whole l → Whole (lineTaken p i w l)
 whole-take p i l [] whole = whole
@@ -230,7 +236,7 @@ module _ (p : Plan) (bytes : ℕ → List ℕ) where
           past-full p bytes i (next (l .taken)) n (omega arith) (l .taken) (o .past),
           ap (total (before p i n)) (whole .lossless),
           ap (total (before p i n)) e,
-          ap (total (before p i n)) (whole .arrives),
+          none-total (before p i n) (l .road) (whole .arrives),
         )
 
     pub empty : (s : State) → Good p bytes s → ((i : ℕ) → i < p .lines → Whole (s .line i)) → (n : ℕ) → storedBelow (s .line) (p .lines) ≤ n

@@ -22,7 +22,7 @@ use Rattle.theory.proofs.Carried.{one, sum-one}
 use Rattle.theory.proofs.Invariant.{next, past-none, LineOk}
 use Rattle.theory.proofs.Histories.{Agree, Good, good-run, good-open, run-append, sent-are, own, good-after}
 use Rattle.theory.proofs.Sieve.{sieve-same, sieve-none}
-use Rattle.theory.proofs.Drain.{Whole, whole-run, empty}
+use Rattle.theory.proofs.Drain.{none-total, Whole, whole-run, empty}
 use Rattle.theory.proofs.Order.{label, ahead, come, follow, all, from-all}
 
 -- ---- what is to come at the opening
@@ -76,11 +76,6 @@ agree-takes : (p : Plan) (bytes : ℕ → List ℕ) (n : ℕ) (s : State) → Ag
 agree-takes p bytes zero s = tt
 agree-takes p bytes (suc n) s = (tt, agree-takes p bytes n (step p s take))
 
-none-counted : (k : ℕ) (xs : List Item) → NoPacketIn xs → total (one k) xs ≡ 0
-none-counted k [] none = refl
-none-counted k (packet j x ∷ rest) none = absurd none
-none-counted k (marker j m ∷ rest) none = none-counted k rest none
-
 -- with no packet queued either, none is to come
 none-ahead : (p : Plan) (bytes : ℕ → List ℕ) → 1 ≤ p .lines → (s : State) → Good p bytes s
     → ((i : ℕ) → i < p .lines → Whole (s .line i)) → ((i : ℕ) → i < p .lines → NoPacketIn (s .line i .store))
@@ -105,8 +100,8 @@ none-ahead p bytes some s good whole none k h = go (decLe (next (s .line i .take
           sum-one p bytes (s .sent) k h,
           past-none p bytes (next (s .line i .taken)) k to-come (s .line i .taken) (o .past),
           ap (total (one k)) (whole i is-line .lossless),
-          ap (total (one k)) (whole i is-line .arrives),
-          none-counted k (s .line i .store) (none i is-line),
+          none-total (one k) (s .line i .road) (whole i is-line .arrives),
+          none-total (one k) (s .line i .store) (none i is-line),
         ))
     go (no passed) = lt-leb (next (s .line i .taken)) k (omega arith)
 

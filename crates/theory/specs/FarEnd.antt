@@ -20,12 +20,12 @@ front p s = s .line (current p s)
 abbrev pub handedBytes : List Out → List (List ℕ)
 handedBytes outs = map (λ (o : Out). o .bytes) outs
 
--- on every line nothing is lost; on every line nothing is under way
+-- on every line nothing is lost; on every line no packet is under way
 abbrev pub NothingLost : Plan → State → Type 0
 NothingLost p s = (i : ℕ) → i < p .lines → s .line i .lost ≡ []
 
-abbrev pub NothingUnderWay : Plan → State → Type 0
-NothingUnderWay p s = (i : ℕ) → i < p .lines → s .line i .road ≡ []
+abbrev pub NoPacketUnderWay : Plan → State → Type 0
+NoPacketUnderWay p s = (i : ℕ) → i < p .lines → NoPacketIn (s .line i .road)
 
 -- ---- demand 2
 
@@ -33,10 +33,10 @@ NothingUnderWay p s = (i : ℕ) → i < p .lines → s .line i .road ≡ []
 abbrev pub InOrder : Plan → Type 0
 InOrder p = (h : List Step) → NothingLost p (after p h) → Beginning (handedBytes (outs p atOpening h)) (packets h)
 
--- and once nothing is under way, as many takes as items held hand out the rest.
+-- and once no packet is under way, as many takes as items held hand out the rest.
 abbrev pub AllOut : Plan → Type 0
 AllOut p =
-    (h : List Step) → NothingLost p (after p h) → NothingUnderWay p (after p h)
+    (h : List Step) → NothingLost p (after p h) → NoPacketUnderWay p (after p h)
     → handedBytes (outs p atOpening (h ++ takes (storedBelow (after p h .line) (p .lines)))) ≡ packets h
 
 -- ---- demand 3

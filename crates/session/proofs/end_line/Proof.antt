@@ -4,7 +4,7 @@ use mathlib.Core.Path.{_∙_, ap}
 use Rattle.text.specs.declared.Row.{Row}
 use Rattle.table.specs.Steps.{rowMade}
 use Rattle.table.proofs.Making.{in-room}
-use Rattle.session.proofs.Lines.{row-made}
+use Rattle.session.proofs.OpenLine.{row-made}
 use Rattle.session.proofs.end_line.Statement.{statement}
 use Rattle.session.proofs.end_line.Tie as tie
 

@@ -5,7 +5,7 @@ use mathlib.Core.Path.{_≡_, sym, _∙_}
 use lib.ListN.{length}
 use lib.Seq.{length-take-le}
 use Rattle.session.specs.Session.{mostLine}
-use Rattle.session.proofs.Lines.{heard-long, heard-line}
+use Rattle.session.proofs.OpenLine.{heard-long, heard-line}
 use Rattle.session.proofs.open_row.Statement.{statement}
 use Rattle.session.proofs.open_row.Tie as tie
 

@@ -9,7 +9,7 @@ use lib.ListN.{length, length-set}
 use Rattle.receiving.specs.declared.Ended.{Ended}
 use Rattle.receiving.specs.Receiver.{receiverOk, storeFits}
 use Rattle.receiving.specs.Takes.{Run, takesFrom, takesOf, goesOn}
-use Rattle.receiving.proofs.Runs.{run-full, back-length, word-small, bytes-inside, next-valid, next-fits, stops, goes}
+use Rattle.receiving.proofs.Runs.{run-of, run-full, back-length, word-small, bytes-inside, next-valid, next-fits, stops, goes}
 use Rattle.taking.proofs.Words.{logged}
 use Rattle.taking.proofs.run_checked.Statement.{statement}
 use Rattle.taking.proofs.run_checked.Tie as tie
@@ -21,6 +21,12 @@ Inv-loop store out₀ log₀ count state₀ taken₀ bytes₀ out log state take
 
 abbrev μ-loop : tie.MeasureT-loop
 μ-loop store out₀ log₀ count state₀ taken₀ bytes₀ out log state taken bytes = count - taken
+
+-- the run from its start is all of it
+whole-run : (st : tie.Start Inv-loop μ-loop)
+    → takesFrom (length (st .args .log .now)) (st .args .store .now) (st .args .r) 0 0 (st .args .out .now) (st .args .log .now)
+    ≡ takesOf (st .args .r) (st .args .store .now) (st .args .out .now) (st .args .log .now)
+whole-run st = run-of (st .args .r) (st .args .store .now) (st .args .out .now) (st .args .log .now) (st .pre .0) (st .pre .1)
 
 one-left : (n i : ℕ) → i < n → n - i ≡ suc (n - (i + 1))
 one-left n i h = omega arith
@@ -52,7 +58,6 @@ same-length-2 : tie.Need-same-length-2 Inv-loop μ-loop
 same-length-2 c = let v = c .before .before .before .before .before .before .before .before .before .before .loop in v .inv .5
 
 returns : tie.Need-returns Inv-loop μ-loop
-unfolding takesOf
 returns c =
     let t = c .before .before .before .before .before .before .before in
     let l = t .before .before .before in
@@ -61,7 +66,7 @@ returns c =
     let left = one-left (length (st .args .log .now)) (v .taken) (t .before .before .loop-test .taken) in
     let no : goesOn (t .take-checked .result .answer) ≡ false = sym (c .before .before .before .goes-on .ensures) ∙ not-true _ (c .before .before .if1 .taken) in
     let s = stops (st .args .store .now) (v .state) (v .taken) (v .bytes) (v .out) (v .log) (v .inv .3) _ _ (t .take-checked .ensures .0) (t .take-checked .ensures .1) (length (st .args .log .now) - (v .taken + 1)) no in
-    let whole = s .0 ∙ ap (λ (n : ℕ). takesFrom n (st .args .store .now) (v .state) (v .taken) (v .bytes) (v .out) (v .log)) (sym left) ∙ v .inv .6 in (
+    let whole = s .0 ∙ ap (λ (n : ℕ). takesFrom n (st .args .store .now) (v .state) (v .taken) (v .bytes) (v .out) (v .log)) (sym left) ∙ v .inv .6 ∙ whole-run st in (
       c .run-ended .ensures
           ∙ ap (λ (e : Ended). record { ended = e; taken = v .taken; bytes = v .bytes; next = v .state }) (c .before .end-of .ensures)
           ∙ ap (λ (x : Run). x .result) whole,
@@ -114,13 +119,12 @@ same-length-4 : tie.Need-same-length-4 Inv-loop μ-loop
 same-length-4 c = c .before .before .loop .inv .5
 
 returns-2 : tie.Need-returns-2 Inv-loop μ-loop
-unfolding takesOf
 returns-2 c =
     let l = c .before .before in
     let v = l .loop in
     let st = l .before .before .before .before in
     let none : length (st .args .log .now) - v .taken ≡ 0 = omega (arith, c .before .loop-test .left) in
-    let whole = run-full (st .args .store .now) (v .state) (v .taken) (v .bytes) (v .out) (v .log) _ none ∙ v .inv .6 in
+    let whole = run-full (st .args .store .now) (v .state) (v .taken) (v .bytes) (v .out) (v .log) _ none ∙ v .inv .6 ∙ whole-run st in
     (c .run-ended2 .ensures ∙ ap (λ (x : Run). x .result) whole, ap (λ (x : Run). x .out) whole, ap (λ (x : Run). x .log) whole)
 
 pub run-checked-spec : {M : Type 1} → statement M

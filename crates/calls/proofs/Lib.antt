@@ -1,0 +1,11 @@
+pub mod Rows
+pub mod States
+pub mod Markers
+pub mod Records
+pub mod Booth
+pub mod Arrivals
+pub mod Heads
+pub mod Takes
+pub mod StageFrame
+pub mod Edges
+pub mod Proved

@@ -1,0 +1,135 @@
+-- What an accepted call answers and leaves, in plain figures. Of any valid state, reached or not.
+use Prim.Native.Nat.{ℕ, _+_, _-_, _*_, _/_, _%_, _≤_, _<_}
+use mathlib.Core.List.{List, [], _∷_, _++_}
+use mathlib.Core.Path.{_≡_}
+use lib.ListN.{length, drop}
+use Rattle.plan.specs.declared.Plan.{Plan}
+use Rattle.plan.specs.Plan.{at, quantum, linePlan, chargeOf}
+use Rattle.plan.specs.Ranges.{From, PlanIn, StoreIn}
+use Rattle.plan_record.specs.Record.{planRead}
+use Rattle.marker.specs.Marker.{valuesOf, markerRead}
+use Rattle.theory.specs.FirstForm.{firstSend, firstDue}
+use Rattle.sending.specs.declared.Sender.{Sender}
+use Rattle.sending.specs.declared.Sent.the-variants as sent
+use Rattle.sending.specs.Sender.{openSender, sendOf}
+use Rattle.sending.specs.InTheory.{inTheory, figuresOf}
+use Rattle.receiving.specs.declared.Receiver.{Receiver}
+use Rattle.receiving.specs.declared.Taken.the-variants as taken
+use Rattle.receiving.specs.Receiver.{openReceiver}
+use Rattle.receiving.specs.Arriving.{Arrival, dataArrival, markerArrival}
+use Rattle.receiving.specs.Taking.{takeOf}
+use Rattle.calls.specs.Plain.{Not, ZeroFrom, SenderArrays, ReceiverArrays, SenderIn, Ahead, Current, ReceiverIn, PlanSpelled, MarkerSpelled, placeIn, DataHead, MarkerHead, BehindLine}
+
+-- ---- opening
+
+-- the plan as it is kept: its figures, and zeros from line N on
+pub record Keeps (p kept : Plan) : Type 0 where
+  pub lines : kept .lines ≡ p .lines
+  pub max : kept .max ≡ p .max
+  pub interval : kept .interval ≡ p .interval
+  pub quanta : (i : ℕ) → i < p .lines → quantum kept i ≡ quantum p i
+  pub rest-zero : ZeroFrom (p .lines) (kept .quanta)
+
+-- each line's round 1 and counter q, and zeros from line N on
+pub record Starts (p : Plan) (rounds counters : List ℕ) : Type 0 where
+  pub round : (i : ℕ) → i < p .lines → at rounds i ≡ 1
+  pub counter : (i : ℕ) → i < p .lines → at counters i ≡ quantum p i
+  pub rounds-zero : ZeroFrom (p .lines) rounds
+  pub counters-zero : ZeroFrom (p .lines) counters
+
+pub record SenderOpens (p : Plan) (s : Sender) : Type 0 where
+  pub plan : Keeps p (s .plan)
+  pub line : s .line ≡ 0
+  pub countdown : s .countdown ≡ p .interval
+  pub starts : Starts p (s .rounds) (s .counters)
+
+pub record ReceiverOpens (p : Plan) (size : ℕ) (r : Receiver) : Type 0 where
+  pub plan : Keeps p (r .plan)
+  pub size-kept : r .rings .size ≡ size
+  pub heads : ZeroFrom 0 (r .rings .heads)
+  pub used : ZeroFrom 0 (r .rings .used)
+  pub round : r .turns .round ≡ 1
+  pub starts : Starts p (r .turns .rounds) (r .turns .counters)
+
+-- ---- an item stored on line i, or taken from it
+
+-- the bytes of an item: kind, length in two bytes low first, then the bytes
+abbrev pub laidOut : ℕ → List ℕ → List ℕ
+laidOut kind b = kind ∷ length b % 256 ∷ length b / 256 % 256 ∷ b
+
+-- its bytes stand behind what the line held, and used has risen by them
+pub record Stores (r : Receiver) (i kind : ℕ) (b store : List ℕ) (a : Arrival) : Type 0 where
+  pub used : at (a .arrived .next .rings .used) i ≡ at (r .rings .used) i + (3 + length b)
+  pub bytes : (k : ℕ) → k < 3 + length b
+      → at (a .store) (placeIn (r .rings .size) i (at (r .rings .heads) i + at (r .rings .used) i) k) ≡ at (laidOut kind b) k
+
+-- used falls by its 3 + n bytes and the head moves on by as much, modulo S
+pub record Removes (r next : Receiver) (i n : ℕ) : Type 0 where
+  pub used : at (next .rings .used) i + (3 + n) ≡ at (r .rings .used) i
+  pub head : at (next .rings .heads) i ≡ (at (r .rings .heads) i + (3 + n)) % r .rings .size
+
+-- the counter falls by a charge; where it is then zero or less it rises by q, and the round by one, modulo 2^32
+pub record Charges (q round counter charge round′ counter′ : ℕ) : Type 0 where
+  pub stays : charge < counter → (round′ ≡ round) × (counter′ + charge ≡ counter)
+  pub moves-on : counter ≤ charge → (round′ ≡ (round + 1) % 4294967296) × (counter′ + charge ≡ counter + q)
+
+-- the round that the state is at: where it was while some line is there, else the nearest that some line has
+pub record MovesOn (r next : Receiver) : Type 0 where
+  pub stays : (j : ℕ) → j < r .plan .lines → at (next .turns .rounds) j ≡ r .turns .round → next .turns .round ≡ r .turns .round
+  pub nearest : ((j : ℕ) → j < r .plan .lines → Not (at (next .turns .rounds) j ≡ r .turns .round))
+      → (j : ℕ) × (j < r .plan .lines) × (next .turns .round ≡ at (next .turns .rounds) j)
+      × ((k d e : ℕ) → k < r .plan .lines → Ahead (at (next .turns .rounds) k) (r .turns .round) d → Ahead (next .turns .round) (r .turns .round) e → e ≤ d)
+
+-- the outcomes of a take, by what stands at the head of the current line
+module _ (r : Receiver) (store out : List ℕ) (i : ℕ) where
+  abbrev next : Receiver
+  next = takeOf r store out .result .next
+
+  abbrev q : ℕ
+  q = quantum (r .plan) i
+
+  abbrev round : ℕ
+  round = at (r .turns .rounds) i
+
+  abbrev counter : ℕ
+  counter = at (r .turns .counters) i
+
+  pub record TakeOutcomes : Type 0 where
+    -- nothing
+    pub waits : at (r .rings .used) i ≡ 0 → takeOf r store out ≡ record { result = record { answer = taken.Waiting i; next = r }; out = out }
+    -- a packet that the output has room for
+    pub hands-out : (b : List ℕ) → DataHead r store i b → length b ≤ length out
+        → (takeOf r store out .result .answer ≡ taken.Data i (length b)) × (takeOf r store out .out ≡ b ++ drop (length b) out)
+        × Removes r next i (length b)
+        × Charges q round counter (chargeOf (linePlan (r .plan) i) (length b)) (at (next .turns .rounds) i) (at (next .turns .counters) i)
+        × MovesOn r next
+    -- a marker that is behind: round, rounds and counters are kept
+    pub behind : (round′ counter′ : ℕ) (m : MarkerHead r store i round′ counter′) → BehindLine r i round′ counter′
+        → (takeOf r store out .result .answer ≡ taken.Behind i) × (takeOf r store out .out ≡ out) × Removes r next i (length (m .bytes)) × (next .turns ≡ r .turns)
+    -- a marker d rounds ahead, that is not: what is missing, and the line's round and counter are its own
+    pub missing : (round′ counter′ d : ℕ) (m : MarkerHead r store i round′ counter′) → Ahead round′ round d → Not (BehindLine r i round′ counter′)
+        → (takeOf r store out .result .answer ≡ taken.Missing i (d * q + counter - counter′)) × (takeOf r store out .out ≡ out)
+        × Removes r next i (length (m .bytes))
+        × (at (next .turns .rounds) i ≡ round′) × (at (next .turns .counters) i ≡ counter′) × MovesOn r next
+
+abbrev pub Takes : Type 0
+Takes =
+    (r : Receiver) (store out : List ℕ) (i : ℕ) → ReceiverArrays r → ReceiverIn r → length store ≡ r .plan .lines * r .rings .size → Current r i → TakeOutcomes r store out i
+
+-- ---- call by call
+
+pub record Outcomes : Type 0 where
+  pub opens-sender : (p : Plan) → PlanIn p → length (p .quanta) ≡ 16 → SenderOpens p (openSender p .sender)
+  pub opens-receiver : (p : Plan) (size : ℕ) → PlanIn p → StoreIn p size → length (p .quanta) ≡ 16 → ReceiverOpens p size (openReceiver p size .receiver)
+  -- a record reads as the plan that it spells, and a marker as the three numbers
+  pub reads-plan : (b : List ℕ) (p : Plan) → PlanSpelled b p → planRead b ≡ record { number = 0; plan = p }
+  pub reads-marker : (b : List ℕ) (line round counter : ℕ) → MarkerSpelled b line round counter → line < 16 → From 1 1048576 counter
+      → valuesOf (markerRead b) ≡ line ∷ round ∷ counter ∷ []
+  -- a packet goes on the current line, by the first form of sending
+  pub sends : (s : Sender) (n : ℕ) → SenderArrays s → SenderIn s → From 1 (s .plan .max) n
+      → (sendOf s n .answer ≡ sent.Went (s .line) (firstDue (inTheory (s .plan)) (figuresOf s) n))
+      × (figuresOf (sendOf s n .next) ≡ firstSend (inTheory (s .plan)) (figuresOf s) n)
+  -- what is stored
+  pub data-stored : (r : Receiver) (i : ℕ) (b store : List ℕ) → ReceiverArrays r → dataArrival r i b store .arrived .number ≡ 0 → Stores r i 0 b store (dataArrival r i b store)
+  pub marker-stored : (r : Receiver) (i : ℕ) (b store : List ℕ) → ReceiverArrays r → markerArrival r i b store .arrived .number ≡ 0 → Stores r i 1 b store (markerArrival r i b store)
+  pub takes : Takes
