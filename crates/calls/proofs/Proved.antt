@@ -34,6 +34,7 @@ outcomes = record {
   sends = booth.outcome-sends;
   data-stored = arrivals.outcome-data-stored;
   marker-stored = arrivals.outcome-marker-stored;
+  cannot-be = takes.outcome-cannot-be;
   takes = takes.outcome-takes;
 }
 

@@ -1,5 +1,5 @@
 -- What a take and a run of takes leave as it was, and the number that a run ends with. Assumes nothing.
-use mathlib.Core.Path.{_≡_, refl, ap, sym, _∙_}
+use mathlib.Core.Path.{_≡_, refl, ap, sym, _∙_, subst}
 use Prim.Native.Nat.{ℕ, zero, suc, _+_, _-_, _≤_}
 use native.Mathlib.Omega.{arith}
 use mathlib.Core.Bool.{Bool, true, false, cond}
@@ -20,18 +20,20 @@ use Rattle.receiving.specs.declared.Receiver.{Receiver}
 use Rattle.receiving.specs.declared.Line.{Line}
 use Rattle.receiving.specs.declared.Taken.{Taken}
 use Rattle.receiving.specs.declared.Taken.the-variants.{Waiting, Data, Missing, Behind, Refused}
+use Rattle.receiving.specs.declared.TakeResult.{TakeResult}
 use Rattle.receiving.specs.declared.Ended.{Ended}
 use Rattle.receiving.specs.declared.Ended.the-variants as ended
 use Rattle.receiving.specs.Receiver.{lineOf, currentLine, receiverOk, storeFits, ringOf}
 use Rattle.receiving.specs.Taking.{Head, nothing, packet, marker, no-item, headOn, Stepped, stays, past, chargedTurn, stepOf, toldStep}
 use Rattle.receiving.specs.Taking.{takenNumber, TakeOutcome, refusedTake, taken, takeAt, takeOf}
 use Rattle.receiving.specs.Takes.{endedNumber, wordOf, bytesOf, endOf, goesOn, Run, stopped, takesFrom, takesOf}
+use Rattle.receiving.proofs.Taking.{state-refused}
 use Rattle.receiving.proofs.Valid.{refused-stays, kept-sizes, out-length, bytes-fit}
 use Rattle.receiving.proofs.Runs.{run-of}
 use Rattle.calls.specs.Plain.{Not, Current}
 use Rattle.calls.specs.Table.{lentTo}
-use Rattle.calls.specs.Frame.{ReceiverEntry, TakesFrame}
-use Rattle.calls.proofs.States.{current-only}
+use Rattle.calls.specs.Frame.{ReceiverEntry, TakesFrame, RunsFrame}
+use Rattle.calls.proofs.States.{current-is, current-only}
 use Rattle.calls.proofs.Rows.{Gives}
 use Rattle.calls.proofs.Arrivals.{lent-rows}
 
@@ -151,6 +153,23 @@ record Left (r : Receiver) (k from : ℕ) (out log : List ℕ) (run : Run) : Typ
   log-behind : drop (run .result .taken) (run .log) ≡ drop (run .result .taken) log
   plan : run .result .next .plan ≡ r .plan
   size : run .result .next .rings .size ≡ r .rings .size
+  entries : (j : ℕ) → r .plan .lines ≤ j → ReceiverEntry r (run .result .next) j
+
+-- the entries from line N on: no take touches them
+same-entry : (r : Receiver) (j : ℕ) → ReceiverEntry r r j
+same-entry r j = record { head = refl; used = refl; round = refl; counter = refl }
+
+entry-on : (r s t : Receiver) (j : ℕ) → ReceiverEntry r s j → ReceiverEntry s t j → ReceiverEntry r t j
+entry-on r s t j a b = record { head = b .head ∙ a .head; used = b .used ∙ a .used; round = b .round ∙ a .round; counter = b .counter ∙ a .counter }
+
+take-entries : (r : Receiver) (store out : List ℕ) (j : ℕ) → r .plan .lines ≤ j → ReceiverEntry r (takeOf r store out .result .next) j
+take-entries r store out j off = go (receiverOk r) refl
+  where
+    go : (t : Bool) → receiverOk r ≡ t → ReceiverEntry r (takeOf r store out .result .next) j
+    go true good =
+        let here = current-is r good in
+        frame-takes r store out .others (currentLine r) j here (λ e. omega (arith, here .0))
+    go false bad = subst (λ (t : TakeResult). ReceiverEntry r (t .next) j) (state-refused r store out bad .0) (same-entry r j)
 
 -- it stops there
 left-here : (end : Ended) (r : Receiver) (k from : ℕ) (out log : List ℕ) → Left r k from out log (stopped end r k from out log)
@@ -163,6 +182,7 @@ left-here end r k from out log = record {
   log-behind = refl;
   plan = refl;
   size = refl;
+  entries = λ j off. same-entry r j;
 }
 
 -- or takes once more
@@ -199,6 +219,9 @@ module _ (store : List ℕ) (r : Receiver) (k from : ℕ) (out log : List ℕ) (
     log-behind = h .log-behind ∙ drop-set-lt (run .result .taken) log k _ (h .takes);
     plan = h .plan ∙ kept-sizes r store (drop from out) .0;
     size = h .size ∙ kept-sizes r store (drop from out) .1;
+    entries = λ j off.
+        let few : t .result .next .plan .lines ≤ j = rw (kept-sizes r store (drop from out) .0) off in
+        entry-on r (t .result .next) (run .result .next) j (take-entries r store (drop from out) j off) (h .entries j few);
   }
 
 -- so every run leaves what it should
@@ -211,15 +234,19 @@ run-left (suc n) store r k from out log inside =
     (left-on store r k from out log inside _ (run-left n store _ (suc k) _ _ _ (next-inside store r k from out log inside)))
     (λ _. left-here _ r k from out log)
 
-pub frame-runs : (r : Receiver) (store out log : List ℕ)
-    → let run = takesOf r store out log in
-    (length (run .out) ≡ length out) × (length (run .log) ≡ length log)
-    × (drop (run .result .bytes) (run .out) ≡ drop (run .result .bytes) out) × (drop (run .result .taken) (run .log) ≡ drop (run .result .taken) log)
-    × (run .result .next .plan ≡ r .plan) × (run .result .next .rings .size ≡ r .rings .size)
+pub frame-runs : (r : Receiver) (store out log : List ℕ) → RunsFrame r out log (takesOf r store out log)
 unfolding takesOf
 frame-runs r store out log =
     let h = go (receiverOk r) (storeFits r store) in
-    (h .out-length, h .log-length, h .out-behind, h .log-behind, h .plan, h .size)
+    record {
+      output-length = h .out-length;
+      log-length = h .log-length;
+      behind-bytes = h .out-behind;
+      behind-words = h .log-behind;
+      plan = h .plan;
+      size = h .size;
+      entries = h .entries;
+    }
   where
     go : (t u : Bool)
         → Left r 0 0 out log

@@ -37,12 +37,12 @@ use Rattle.receiving.proofs.Lines.{held-same, turn-same}
 use Rattle.receiving.proofs.Stores.{few-rings, place}
 use Rattle.receiving.proofs.Taking.{topped-up, charged, still-at, moved-on, state-refused, store-refused, line-takes, step-taken}
 use Rattle.receiving.proofs.Valid.{found, stays-put}
-use Rattle.calls.specs.Plain.{Not, ReceiverArrays, Ahead, Current, HeadIs, DataHead, MarkerHead, ItemHead, BehindLine}
+use Rattle.calls.specs.Plain.{Not, ReceiverArrays, Ahead, Current, HeadIs, DataHead, MarkerHead, ItemHead, BehindLine, heldByte, firstOf, MarkerSpelled}
 use Rattle.calls.specs.Table.{given, accepted, CurrentEmpty, CurrentItem, PacketLonger, MarkerBehind, lentTo}
-use Rattle.calls.specs.Outcomes.{Removes, Charges, MovesOn, TakeOutcomes, Takes}
+use Rattle.calls.specs.Outcomes.{Removes, Charges, MovesOn, TakeOutcomes, Takes, CannotBe}
 use Rattle.calls.proofs.States.{ahead-is, ahead-only, current-is, current-only, receiver-in, receiver-good}
-use Rattle.calls.proofs.Heads.{same-head, same-marker, empty-head, data-head, marker-head, no-item-head}
-use Rattle.calls.proofs.Heads.{Stands, no-bytes, is-packet, is-marker, no-head, stands}
+use Rattle.calls.proofs.Heads.{same-head, same-marker, empty-head, data-head, marker-head, no-item-head, head-no-item}
+use Rattle.calls.proofs.Heads.{Stands, no-bytes, is-packet, is-marker, no-head, stands, head-no-item}
 
 -- ---- a marker's report
 
@@ -294,6 +294,13 @@ module _ (r : Receiver) (store out : List ℕ) (good : receiverOk r ≡ true) (f
       waits = λ z.
           took (empty-head r store i good fits line z)
           ∙ ap (λ (x : Receiver). record { result = record { answer = taken.Waiting i; next = x }; out = out }) (stays-put r good);
+      no-item = λ bytes some none.
+          took (head-no-item r store i good fits line bytes some none)
+          ∙ ap (λ (x : Receiver). record { result = record { answer = taken.Refused 9; next = x }; out = out }) (stays-put r good);
+      too-long = λ b d more.
+          took (data-head r store i good fits line d)
+          ∙ ap (takenBy r i) (simp (lt-leb (length b) (length out) more))
+          ∙ ap (λ (x : Receiver). record { result = record { answer = taken.Refused 8; next = x }; out = out }) (stays-put r good);
       hands-out = hands;
       behind = keeps;
       missing = λ round counter d m is not.
@@ -331,3 +338,20 @@ table-takes r store out bytes = go (receiverOk r) refl (storeFits r store) refl
 pub outcome-takes : Takes
 outcome-takes r store out i arrays is fits current =
     subst (TakeOutcomes r store out) (sym (current-only r i current)) (outcomes r store out (receiver-good r is) (eq-eqb _ _ fits) arrays)
+
+-- ---- what cannot be an item
+
+pub outcome-cannot-be : (r : Receiver) (store : List ℕ) (i : ℕ) → CannotBe r store i
+outcome-cannot-be r store i = record {
+  few = λ h. either (λ b d. omega (arith, d .0 .fits)) (λ round counter m. omega (arith, m .head .fits));
+  other-kind = λ h. either (λ b d. omega (arith, d .0 .kind-byte)) (λ round counter m. omega (arith, m .head .kind-byte));
+  cut-short = λ h. either (λ b d. omega (arith, d .0 .fits, d .0 .length-bytes)) (λ round counter m. omega (arith, m .head .fits, m .head .length-bytes));
+  bad-data = λ zero bad. either (λ b d. bad (rw (d .0 .length-bytes) (d .1))) (λ round counter m. omega (arith, m .head .kind-byte));
+  bad-marker = λ one bad. either (λ b d. omega (arith, d .0 .kind-byte)) (λ round counter m.
+      let same = m .head .bytes ∙ ap (firstOf (λ k. heldByte r store i (3 + k))) (sym (m .head .length-bytes)) in
+      bad round counter (subst (λ (b : List ℕ). MarkerSpelled b i round counter) same (m .spelled)) (m .in-range));
+}
+  where
+    either : ((b : List ℕ) → DataHead r store i b → ⊥) → ((round counter : ℕ) → MarkerHead r store i round counter → ⊥) → ItemHead r store i → ⊥
+    either data-not marker-not (inl (b, d)) = data-not b d
+    either data-not marker-not (inr (round, counter, m)) = marker-not round counter m

@@ -1,5 +1,5 @@
 -- The frame: what each call leaves as it was. Of any plan, state, length, bytes and buffers, reached or not.
-use Prim.Native.Nat.{ℕ, _+_, _<_}
+use Prim.Native.Nat.{ℕ, _+_, _≤_, _<_}
 use mathlib.Core.List.{List, [], _∷_}
 use mathlib.Core.Path.{_≡_}
 use lib.ListN.{length, drop}
@@ -17,7 +17,7 @@ use Rattle.receiving.specs.declared.Taken.the-variants as taken
 use Rattle.receiving.specs.Receiver.{openReceiver}
 use Rattle.receiving.specs.Arriving.{Arrival, dataArrival, markerArrival}
 use Rattle.receiving.specs.Taking.{TakeOutcome, takeOf}
-use Rattle.receiving.specs.Takes.{takesOf}
+use Rattle.receiving.specs.Takes.{Run, takesOf}
 use Rattle.calls.specs.Plain.{Not, Current, placeIn}
 
 -- ---- outputs
@@ -67,6 +67,17 @@ pub record TakesFrame (r : Receiver) (out : List ℕ) (t : TakeOutcome) : Type 0
   pub waits : (i : ℕ) → t .result .answer ≡ taken.Waiting i → t .result .next ≡ r
   pub refused : (k : ℕ) → t .result .answer ≡ taken.Refused k → t .result .next ≡ r
 
+-- A run writes its packets at the front of the output and its words at the front of the log, and leaves what is behind them; the plan and S stay, and every
+-- entry from line N on.
+pub record RunsFrame (r : Receiver) (out log : List ℕ) (run : Run) : Type 0 where
+  pub output-length : length (run .out) ≡ length out
+  pub log-length : length (run .log) ≡ length log
+  pub behind-bytes : drop (run .result .bytes) (run .out) ≡ drop (run .result .bytes) out
+  pub behind-words : drop (run .result .taken) (run .log) ≡ drop (run .result .taken) log
+  pub plan : run .result .next .plan ≡ r .plan
+  pub size : run .result .next .rings .size ≡ r .rings .size
+  pub entries : (j : ℕ) → r .plan .lines ≤ j → ReceiverEntry r (run .result .next) j
+
 -- ---- call by call
 
 -- sixteen zeros
@@ -101,9 +112,4 @@ pub record Frame : Type 0 where
   pub data-arrives : (r : Receiver) (i : ℕ) (b store : List ℕ) → Arrives r i b store (dataArrival r i b store)
   pub marker-arrives : (r : Receiver) (i : ℕ) (b store : List ℕ) → Arrives r i b store (markerArrival r i b store)
   pub takes : (r : Receiver) (store out : List ℕ) → TakesFrame r out (takeOf r store out)
-  -- a run writes its packets at the front of the output and its words at the front of the log, and leaves what is behind them
-  pub runs : (r : Receiver) (store out log : List ℕ)
-      → let run = takesOf r store out log in
-      (length (run .out) ≡ length out) × (length (run .log) ≡ length log)
-      × (drop (run .result .bytes) (run .out) ≡ drop (run .result .bytes) out) × (drop (run .result .taken) (run .log) ≡ drop (run .result .taken) log)
-      × (run .result .next .plan ≡ r .plan) × (run .result .next .rings .size ≡ r .rings .size)
+  pub runs : (r : Receiver) (store out log : List ℕ) → RunsFrame r out log (takesOf r store out log)

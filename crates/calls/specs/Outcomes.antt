@@ -3,6 +3,7 @@ use Prim.Native.Nat.{ℕ, _+_, _-_, _*_, _/_, _%_, _≤_, _<_}
 use mathlib.Core.List.{List, [], _∷_, _++_}
 use mathlib.Core.Path.{_≡_}
 use lib.ListN.{length, drop}
+use Rattle.numbers.specs.Coding.{Bytes}
 use Rattle.plan.specs.declared.Plan.{Plan}
 use Rattle.plan.specs.Plan.{at, quantum, linePlan, chargeOf}
 use Rattle.plan.specs.Ranges.{From, PlanIn, StoreIn}
@@ -18,7 +19,7 @@ use Rattle.receiving.specs.declared.Taken.the-variants as taken
 use Rattle.receiving.specs.Receiver.{openReceiver}
 use Rattle.receiving.specs.Arriving.{Arrival, dataArrival, markerArrival}
 use Rattle.receiving.specs.Taking.{takeOf}
-use Rattle.calls.specs.Plain.{Not, ZeroFrom, SenderArrays, ReceiverArrays, SenderIn, Ahead, Current, ReceiverIn, PlanSpelled, MarkerSpelled, placeIn, DataHead, MarkerHead, BehindLine}
+use Rattle.calls.specs.Plain.{Not, ZeroFrom, SenderArrays, ReceiverArrays, SenderIn, Ahead, Current, ReceiverIn, PlanSpelled, MarkerSpelled, placeIn, heldByte, firstOf, DataHead, MarkerHead, ItemHead, BehindLine}
 
 -- ---- opening
 
@@ -80,6 +81,24 @@ pub record MovesOn (r next : Receiver) : Type 0 where
       → (j : ℕ) × (j < r .plan .lines) × (next .turns .round ≡ at (next .turns .rounds) j)
       × ((k d e : ℕ) → k < r .plan .lines → Ahead (at (next .turns .rounds) k) (r .turns .round) d → Ahead (next .turns .round) (r .turns .round) e → e ≤ d)
 
+-- What cannot be an item of line i: used below 3; a kind that is neither 0 nor 1; 3 + length above used; data of a length outside 1 to Max; a marker whose
+-- bytes spell none of the line's, with a counter in 1 to its quantum.
+module _ (r : Receiver) (store : List ℕ) (i : ℕ) where
+  -- the length that the head tells, and its bytes
+  abbrev told : ℕ
+  told = heldByte r store i 1 + heldByte r store i 2 * 256
+
+  abbrev body : List ℕ
+  body = firstOf (λ k. heldByte r store i (3 + k)) told
+
+  pub record CannotBe : Type 0 where
+    pub few : at (r .rings .used) i < 3 → Not (ItemHead r store i)
+    pub other-kind : 1 < heldByte r store i 0 → Not (ItemHead r store i)
+    pub cut-short : at (r .rings .used) i < 3 + told → Not (ItemHead r store i)
+    pub bad-data : heldByte r store i 0 ≡ 0 → Not (From 1 (r .plan .max) told) → Not (ItemHead r store i)
+    pub bad-marker : heldByte r store i 0 ≡ 1
+        → ((round counter : ℕ) → MarkerSpelled body i round counter → Not (From 1 (quantum (r .plan) i) counter)) → Not (ItemHead r store i)
+
 -- the outcomes of a take, by what stands at the head of the current line
 module _ (r : Receiver) (store out : List ℕ) (i : ℕ) where
   abbrev next : Receiver
@@ -97,7 +116,12 @@ module _ (r : Receiver) (store out : List ℕ) (i : ℕ) where
   pub record TakeOutcomes : Type 0 where
     -- nothing
     pub waits : at (r .rings .used) i ≡ 0 → takeOf r store out ≡ record { result = record { answer = taken.Waiting i; next = r }; out = out }
-    -- a packet that the output has room for
+    -- what cannot be an item
+    pub no-item : Bytes store → Not (at (r .rings .used) i ≡ 0) → Not (ItemHead r store i)
+        → takeOf r store out ≡ record { result = record { answer = taken.Refused 9; next = r }; out = out }
+    -- a packet that is longer than the output, and one that it has room for
+    pub too-long : (b : List ℕ) → DataHead r store i b → length out < length b
+        → takeOf r store out ≡ record { result = record { answer = taken.Refused 8; next = r }; out = out }
     pub hands-out : (b : List ℕ) → DataHead r store i b → length b ≤ length out
         → (takeOf r store out .result .answer ≡ taken.Data i (length b)) × (takeOf r store out .out ≡ b ++ drop (length b) out)
         × Removes r next i (length b)
@@ -132,4 +156,5 @@ pub record Outcomes : Type 0 where
   -- what is stored
   pub data-stored : (r : Receiver) (i : ℕ) (b store : List ℕ) → ReceiverArrays r → dataArrival r i b store .arrived .number ≡ 0 → Stores r i 0 b store (dataArrival r i b store)
   pub marker-stored : (r : Receiver) (i : ℕ) (b store : List ℕ) → ReceiverArrays r → markerArrival r i b store .arrived .number ≡ 0 → Stores r i 1 b store (markerArrival r i b store)
+  pub cannot-be : (r : Receiver) (store : List ℕ) (i : ℕ) → CannotBe r store i
   pub takes : Takes
