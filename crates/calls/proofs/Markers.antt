@@ -20,7 +20,7 @@ use Rattle.calls.specs.Plain.{MarkerSpelled, MarkerTo, MarkerOf}
 use Rattle.calls.proofs.Rows.{settled}
 
 -- the record's bytes, number by number
-marker-bytes : (m : Marker) → markerBytes m ≡ coded 32 (m .line) ++ coded 32 (m .round) ++ coded 32 (m .counter)
+pub marker-bytes : (m : Marker) → markerBytes m ≡ coded 32 (m .line) ++ coded 32 (m .round) ++ coded 32 (m .counter)
 unfolding rowBytes
 marker-bytes m = simp (append-assoc, append-nil)
 

@@ -1,4 +1,5 @@
 -- What each call answers and leaves, as four statements. Assumes nothing.
+use Rattle.numbers.proofs.Laws.{coded-small, coded-big}
 use Rattle.calls.specs.Table.{Table}
 use Rattle.calls.specs.Outcomes.{Outcomes}
 use Rattle.calls.specs.Frame.{Frame}
@@ -27,6 +28,15 @@ table = record {
 
 pub outcomes : Outcomes
 outcomes = record {
+  last-byte = λ v. coded-small 32 v;
+  more-bytes = λ v big small. coded-big 32 v small big;
+  reads-number = records.outcome-reads-number;
+  reads-only = records.outcome-reads-only;
+  writes-number = records.outcome-writes-number;
+  writes-plan = records.outcome-writes-plan;
+  row-of = records.outcome-row-of;
+  writes-marker = records.outcome-writes-marker;
+  asks = records.outcome-asks;
   opens-sender = booth.outcome-opens-sender;
   opens-receiver = booth.outcome-opens-receiver;
   reads-plan = records.outcome-reads-plan;

@@ -7,15 +7,17 @@ use mathlib.Core.List.{List, [], _∷_, _++_, append-assoc}
 use mathlib.Core.Logic.{_⊎_, inl, inr}
 use mathlib.Core.Path.{_≡_, refl, ap, sym, _∙_}
 use lib.Dec.{ltb, leb}
-use lib.ListN.{length, take, drop, replicate, length-append, length-drop, length-replicate, take-append-drop, List·getD-eq-default}
+use lib.ListN.{length, getD, take, drop, replicate, length-append, length-drop, length-replicate, take-append-drop, List·getD-eq-default}
 use lib.Seq.{length-take-le, drop-append-seam, getD-append-add, getD-drop, ext-getD}
 use borrow.Author.Tests.{leb-true, le-leb, lt-ltb, ltb-true}
 use Rattle.numbers.specs.declared.Written.the-variants.{Length}
 use Rattle.numbers.specs.Checks.{check}
-use Rattle.numbers.specs.Coding.{Bytes, coded, rowBytes}
-use Rattle.numbers.specs.Writing.{writtenNumber, room, outcome, written}
+use Rattle.numbers.specs.declared.Reading.{Reading}
+use Rattle.numbers.specs.declared.Reading.the-variants.{Number, Nothing}
+use Rattle.numbers.specs.Coding.{Bytes, yields, readingOf, coded, rowBytes}
+use Rattle.numbers.specs.Writing.{Outcome, writtenNumber, room, outcome, written}
 use Rattle.numbers.proofs.Checks.{check-passed, in-range, from-range}
-use Rattle.numbers.proofs.Laws.{accepted as accepted-bytes}
+use Rattle.numbers.proofs.Laws.{accepted as accepted-bytes, round-trip, fits, split}
 use Rattle.plan.specs.declared.Plan.{Plan}
 use Rattle.plan.specs.Plan.{at, planOk, firstEntries}
 use Rattle.plan.specs.Ranges.{From, PlanIn}
@@ -32,8 +34,9 @@ use Rattle.sending.specs.declared.Sender.{Sender}
 use Rattle.sending.specs.Sender.{senderOk, lineMarker, markerFrom}
 use Rattle.calls.specs.Plain.{Not, ZeroFrom, PlanSpelled, MarkerSpelled, MarkerTo, MarkerOf}
 use Rattle.calls.specs.Table.{given, accepted, short}
+use Rattle.calls.specs.Outcomes.{WritesOut}
 use Rattle.calls.specs.Frame.{Writes, zeroPlan}
-use Rattle.calls.proofs.Markers.{spelled-reads, marker-spelled, WholeOrFive, whole-or-five, read-counter, read-line, judged-number}
+use Rattle.calls.proofs.Markers.{marker-bytes, spelled-reads, marker-spelled, WholeOrFive, whole-or-five, read-counter, read-line, judged-number}
 use Rattle.calls.proofs.Rows.{Gives, ends, unless, range-row, below-row, settled, room-row, answers, answered}
 
 -- ---- writers: the table
@@ -211,3 +214,49 @@ frame-reads-marker b = go (markerRead b)
     go : (r : MarkerRead) → Not (numberOf r ≡ 0) → valuesOf r ≡ 0 ∷ 0 ∷ 0 ∷ []
     go (Whole m) n = absurd (n refl)
     go (Refused k) n = refl
+
+-- ---- what the writers write
+
+writes-out : (number : ℕ) (bytes b out : List ℕ) → bytes ≡ b → writtenNumber (outcome number bytes out .answer) ≡ 0 → WritesOut b out (outcome number bytes out)
+unfolding outcome
+writes-out number bytes b out same =
+    settled (λ (o : Outcome). writtenNumber (o .answer) ≡ 0 → WritesOut b out o) number _ _
+    (λ z e. rw (← same) (record { answer = refl; output = refl })) (λ some e. absurd (some e))
+
+pub outcome-writes-number : (v : ℕ) (out : List ℕ) → let o = written (coded 32 v) out in writtenNumber (o .answer) ≡ 0 → WritesOut (coded 32 v) out o
+outcome-writes-number v out = writes-out _ (coded 32 v) (coded 32 v) out refl
+
+pub outcome-writes-plan : (p : Plan) (out : List ℕ) → writtenNumber (planWritten p out .answer) ≡ 0
+    → WritesOut (coded 32 (p .lines) ++ coded 32 (p .max) ++ coded 32 (p .interval) ++ rowBytes (take (p .lines) (p .quanta))) out (planWritten p out)
+unfolding planWritten
+outcome-writes-plan p out = writes-out _ (planBytes p) _ out (plan-bytes p)
+
+pub outcome-row-of : (v : ℕ) (row : List ℕ) → (rowBytes [] ≡ []) × (rowBytes (v ∷ row) ≡ coded 32 v ++ rowBytes row)
+unfolding rowBytes
+outcome-row-of v row = (refl, refl)
+
+pub outcome-writes-marker : (m : Marker) (out : List ℕ) → writtenNumber (markerWritten m out .answer) ≡ 0
+    → WritesOut (coded 32 (m .line) ++ coded 32 (m .round) ++ coded 32 (m .counter)) out (markerWritten m out)
+unfolding markerWritten
+outcome-writes-marker m out = writes-out _ (markerBytes m) _ out (marker-bytes m)
+
+pub outcome-asks : (s : Sender) (i : ℕ) (out : List ℕ) → writtenNumber (markerFrom s i out .answer) ≡ 0
+    → WritesOut (coded 32 i ++ coded 32 (at (s .rounds) i) ++ coded 32 (at (s .counters) i)) out (markerFrom s i out)
+unfolding markerFrom
+outcome-asks s i out = writes-out _ (lineMarker s i) _ out (marker-bytes (markerOf i (at (s .rounds) i) (at (s .counters) i)))
+
+-- ---- numbers
+
+pub outcome-reads-number : (v : ℕ) (rest : List ℕ) → v < 4294967296 → yields (readingOf 32 (coded 32 v ++ rest)) ≡ v ∷ length (coded 32 v) ∷ []
+outcome-reads-number v rest small = ap yields (round-trip 32 v rest small)
+
+pub outcome-reads-only : (b : List ℕ) (v n : ℕ) → Bytes b → yields (readingOf 32 b) ≡ v ∷ n ∷ [] → (v < 4294967296) × (b ≡ coded 32 v ++ drop n b)
+outcome-reads-only b v n bytes e = go (readingOf 32 b) refl e
+  where
+    go : (r : Reading) → readingOf 32 b ≡ r → yields r ≡ v ∷ n ∷ [] → (v < 4294967296) × (b ≡ coded 32 v ++ drop n b)
+    go Nothing is e = absurd (omega (arith, ap length e))
+    go (Number u k) is e =
+        let same : u ≡ v = ap (λ (l : List ℕ). getD l 0 0) e in
+        let place : k ≡ n = ap (λ (l : List ℕ). getD l 1 0) e in
+        let read : readingOf 32 b ≡ Number v n = is ∙ rw (same, place) refl in
+        (fits 32 b read, split 32 b read bytes)

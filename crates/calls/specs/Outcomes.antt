@@ -2,17 +2,21 @@
 use Prim.Native.Nat.{ℕ, _+_, _-_, _*_, _/_, _%_, _≤_, _<_}
 use mathlib.Core.List.{List, [], _∷_, _++_}
 use mathlib.Core.Path.{_≡_}
-use lib.ListN.{length, drop}
-use Rattle.numbers.specs.Coding.{Bytes}
+use lib.ListN.{length, take, drop}
+use Rattle.numbers.specs.declared.Written.the-variants as written
+use Rattle.numbers.specs.Coding.{Bytes, yields, readingOf, coded, rowBytes}
+use Rattle.numbers.specs.Writing.{Outcome, writtenNumber}
+use Rattle.numbers.specs.Writing as writing
 use Rattle.plan.specs.declared.Plan.{Plan}
 use Rattle.plan.specs.Plan.{at, quantum, linePlan, chargeOf}
 use Rattle.plan.specs.Ranges.{From, PlanIn, StoreIn}
-use Rattle.plan_record.specs.Record.{planRead}
-use Rattle.marker.specs.Marker.{valuesOf, markerRead}
+use Rattle.plan_record.specs.Record.{planRead, planWritten}
+use Rattle.marker.specs.declared.Marker.{Marker}
+use Rattle.marker.specs.Marker.{valuesOf, markerRead, markerWritten}
 use Rattle.theory.specs.FirstForm.{firstSend, firstDue}
 use Rattle.sending.specs.declared.Sender.{Sender}
 use Rattle.sending.specs.declared.Sent.the-variants as sent
-use Rattle.sending.specs.Sender.{openSender, sendOf}
+use Rattle.sending.specs.Sender.{openSender, sendOf, markerFrom}
 use Rattle.sending.specs.InTheory.{inTheory, figuresOf}
 use Rattle.receiving.specs.declared.Receiver.{Receiver}
 use Rattle.receiving.specs.declared.Taken.the-variants as taken
@@ -140,9 +144,30 @@ abbrev pub Takes : Type 0
 Takes =
     (r : Receiver) (store out : List ℕ) (i : ℕ) → ReceiverArrays r → ReceiverIn r → length store ≡ r .plan .lines * r .rings .size → Current r i → TakeOutcomes r store out i
 
+-- ---- writing
+
+-- these bytes stand at the front of the output, the rest is as it was, and their length is answered
+pub record WritesOut (b out : List ℕ) (o : Outcome) : Type 0 where
+  pub answer : o .answer ≡ written.Length (length b)
+  pub output : o .out ≡ b ++ drop (length b) out
+
 -- ---- call by call
 
 pub record Outcomes : Type 0 where
+  -- numbers on the wire: low seven bits first, the top bit of a byte set when another follows, shortest form only
+  pub last-byte : (v : ℕ) → v < 128 → coded 32 v ≡ v ∷ []
+  pub more-bytes : (v : ℕ) → 128 ≤ v → v < 4294967296 → coded 32 v ≡ (v % 128 + 128) ∷ coded 32 (v / 128)
+  pub reads-number : (v : ℕ) (rest : List ℕ) → v < 4294967296 → yields (readingOf 32 (coded 32 v ++ rest)) ≡ v ∷ length (coded 32 v) ∷ []
+  pub reads-only : (b : List ℕ) (v n : ℕ) → Bytes b → yields (readingOf 32 b) ≡ v ∷ n ∷ [] → (v < 4294967296) × (b ≡ coded 32 v ++ drop n b)
+  -- what the writers write: a number; a plan's N, Max, K and quanta; a marker's line, round and counter; and of a state its line's
+  pub writes-number : (v : ℕ) (out : List ℕ) → let o = writing.written (coded 32 v) out in writtenNumber (o .answer) ≡ 0 → WritesOut (coded 32 v) out o
+  pub writes-plan : (p : Plan) (out : List ℕ) → writtenNumber (planWritten p out .answer) ≡ 0
+      → WritesOut (coded 32 (p .lines) ++ coded 32 (p .max) ++ coded 32 (p .interval) ++ rowBytes (take (p .lines) (p .quanta))) out (planWritten p out)
+  pub row-of : (v : ℕ) (row : List ℕ) → (rowBytes [] ≡ []) × (rowBytes (v ∷ row) ≡ coded 32 v ++ rowBytes row)
+  pub writes-marker : (m : Marker) (out : List ℕ) → writtenNumber (markerWritten m out .answer) ≡ 0
+      → WritesOut (coded 32 (m .line) ++ coded 32 (m .round) ++ coded 32 (m .counter)) out (markerWritten m out)
+  pub asks : (s : Sender) (i : ℕ) (out : List ℕ) → writtenNumber (markerFrom s i out .answer) ≡ 0
+      → WritesOut (coded 32 i ++ coded 32 (at (s .rounds) i) ++ coded 32 (at (s .counters) i)) out (markerFrom s i out)
   pub opens-sender : (p : Plan) → PlanIn p → length (p .quanta) ≡ 16 → SenderOpens p (openSender p .sender)
   pub opens-receiver : (p : Plan) (size : ℕ) → PlanIn p → StoreIn p size → length (p .quanta) ≡ 16 → ReceiverOpens p size (openReceiver p size .receiver)
   -- a record reads as the plan that it spells, and a marker as the three numbers
