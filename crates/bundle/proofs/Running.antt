@@ -14,8 +14,8 @@ use Rattle.receiving.specs.declared.Ended.the-variants as ended
 use Rattle.receiving.specs.declared.Taken.{Taken}
 use Rattle.receiving.specs.declared.Taken.the-variants.{Waiting, Data, Missing, Behind, Refused}
 use Rattle.receiving.specs.Receiver.{receiverOk, storeFits}
-use Rattle.receiving.specs.Taking.{takenNumber, takenValues, takeOf}
-use Rattle.receiving.specs.Takes.{wordOf, bytesOf, endOf, goesOn, Run, stopped, takesFrom, takesOf}
+use Rattle.receiving.specs.Taking.{takeOf}
+use Rattle.receiving.specs.Takes.{endedNumber, wordOf, bytesOf, endOf, goesOn, Run, stopped, takesFrom, takesOf}
 use Rattle.receiving.proofs.Valid.{out-length, bytes-fit}
 use Rattle.bundle.specs.Events.{Handed, handedBy, bytesOut}
 use Rattle.bundle.specs.Worlds.{World, takes, takeSeen, call, calls, handedOut, handedIn}
@@ -31,11 +31,17 @@ joined-by (Refused k) out rest = refl
 
 -- a take that another does not follow ends a run with its own number and line
 stops-at : (t : Taken) → goesOn t ≡ false → StopsAt (endOf t) t
-stops-at (Waiting i) e = record { goes-no-further = e; number = refl; values = refl }
+stops-at (Waiting i) e = inl (i, refl, refl)
 stops-at (Data i n) e = absurd (never e)
 stops-at (Missing i m) e = absurd (never e)
 stops-at (Behind i) e = absurd (never e)
-stops-at (Refused k) e = record { goes-no-further = e; number = refl; values = refl }
+stops-at (Refused k) e = inr (k, refl, refl)
+
+-- how a run may end: at a full log, or at such a take, before it is full or before it is looked at
+abbrev Stops : Ended → ℕ → List ℕ → Taken → Type 0
+Stops end taken log next =
+    ((taken ≡ length log) × (end ≡ ended.Full))
+    ⊎ (StopsAt end next × ((taken < length log) ⊎ (endedNumber end ≡ 2) ⊎ (endedNumber end ≡ 9)))
 
 -- takes that lead to the end of a run, behind k that have written the first `at` bytes of the output: what those have left stays in front
 record Ends (w : World) (k at : ℕ) (out log : List ℕ) (run : Run) : Type 0 where
@@ -43,10 +49,9 @@ record Ends (w : World) (k at : ℕ) (out log : List ℕ) (run : Run) : Type 0 w
   count : k + length outs ≡ run .result .taken
   world : calls w (map takes outs) .receiver ≡ run .result .next
   bytes : take at out ++ joined (handedIn w (map takes outs)) ≡ take (run .result .bytes) (run .out)
+  told : at + length (joined (handedIn w (map takes outs))) ≡ run .result .bytes
   words : take k log ++ map wordOf (answersIn w outs) ≡ take (run .result .taken) (run .log)
-  stops :
-      ((run .result .taken ≡ length log) × (run .result .ended ≡ ended.Full))
-      ⊎ StopsAt (run .result .ended) (takeOf (run .result .next) (w .store) (drop (run .result .bytes) (run .out)) .result .answer)
+  stops : Stops (run .result .ended) (run .result .taken) log (takeOf (run .result .next) (w .store) (drop (run .result .bytes) (run .out)) .result .answer)
 
 module _ (w : World) (k at : ℕ) (out log : List ℕ) where
   -- the next take, into what is left of the output
@@ -63,12 +68,13 @@ module _ (w : World) (k at : ℕ) (out log : List ℕ) where
   part = takeOf (w .receiver) (w .store) left .out
 
   -- a run ends where the log is full, or that take would wait or be refused
-  ends : (end : Ended) → ((k ≡ length log) × (end ≡ ended.Full)) ⊎ StopsAt end answer → Ends w k at out log (stopped end (w .receiver) k at out log)
+  ends : (end : Ended) → Stops end k log answer → Ends w k at out log (stopped end (w .receiver) k at out log)
   ends end why = record {
     outs = [];
     count = add-zero k;
     world = refl;
     bytes = append-nil (take at out);
+    told = add-zero at;
     words = append-nil (take k log);
     stops = why;
   }
@@ -99,6 +105,14 @@ module _ (w : World) (k at : ℕ) (out log : List ℕ) where
               ∙ sym (append-assoc (take at out) (take (bytesOf answer) part) handed)
               ∙ ap (λ (l : List ℕ). l ++ handed) (sym bytes-front)
               ∙ rest .bytes;
+          told =
+              omega (
+                arith,
+                rest .told,
+                ap length (joined-by answer part (handedOut next (map takes (rest .outs)))),
+                length-append (take (bytesOf answer) part) handed,
+                length-take-le (bytesOf answer) part (omega (arith, out-length (w .receiver) (w .store) left, bytes-fit (w .receiver) (w .store) left)),
+              );
           words =
               sym (append-assoc (take k log) (wordOf answer ∷ []) told)
               ∙ ap (λ (l : List ℕ). l ++ told) (sym (take-suc-set log k (wordOf answer) room))
@@ -118,7 +132,7 @@ from (suc n) w k at out log inside full =
     go : (t : Bool) → goesOn (answer w k at out log) ≡ t → {on : Run} → Ends w k at out log on
         → Ends w k at out log (cond t on (stopped (endOf (answer w k at out log)) (w .receiver) k at out log))
     go true e on = on
-    go false e on = ends w k at out log _ (inr (stops-at (answer w k at out log) e))
+    go false e on = ends w k at out log _ (inr (stops-at (answer w k at out log) e, inl (omega arith)))
 
 pub run-is-takes : RunIsTakes
 unfolding takesOf takeOf
@@ -132,12 +146,13 @@ run-is-takes w out log = go (receiverOk (w .receiver)) refl (storeFits (w .recei
 
     -- from the start
     all : {r : Run} → Ends w 0 0 out log r → Runs w log r
-    all e = record { outs = e .outs; count = omega (arith, e .count); world = e .world; bytes = e .bytes; words = e .words; stops = e .stops }
+    all e = record { outs = e .outs; count = omega (arith, e .count); world = e .world; bytes = e .bytes; told = omega (arith, e .told); words = e .words; stops = e .stops }
 
-    refused : (k : ℕ) → takeOf (w .receiver) (w .store) out .result .answer ≡ Refused k → Runs w log (stopped (ended.Refused k) (w .receiver) 0 0 out log)
-    refused k e = all (ends w 0 0 out log (ended.Refused k) (inr (record { goes-no-further = ap goesOn e; number = sym (ap takenNumber e); values = sym (ap takenValues e) })))
+    refused : (k : ℕ) → (k ≡ 2) ⊎ (k ≡ 9) → takeOf (w .receiver) (w .store) out .result .answer ≡ Refused k
+        → Runs w log (stopped (ended.Refused k) (w .receiver) 0 0 out log)
+    refused k which e = all (ends w 0 0 out log (ended.Refused k) (inr (inr (k, e, refl), inr which)))
 
     go : (t : Bool) → receiverOk (w .receiver) ≡ t → (u : Bool) → storeFits (w .receiver) (w .store) ≡ u → Runs w log (run t u)
     go true g true f = all (from (length log) w 0 0 out log (omega arith) (omega arith))
-    go true g false f = refused 9 (simp (g, f))
-    go false g u f = refused 2 (simp g)
+    go true g false f = refused 9 (inr refl) (simp (g, f))
+    go false g u f = refused 2 (inl refl) (simp g)

@@ -26,4 +26,5 @@ edges = record {
   round = (refl, refl, refl, refl);
   written-as = (refl, refl, refl, refl, refl, refl, refl, refl, refl, refl);
   read-as = (refl, refl, refl, refl, refl, refl, refl, refl, refl, refl);
+  not-read = (refl, refl, refl, refl);
 }

@@ -1,4 +1,5 @@
 -- What each call answers and leaves, as four statements. Assumes nothing.
+use mathlib.Core.Path.{refl}
 use Rattle.numbers.proofs.Laws.{coded-small, coded-big}
 use Rattle.calls.specs.Table.{Table}
 use Rattle.calls.specs.Outcomes.{Outcomes}
@@ -44,6 +45,7 @@ outcomes = record {
   sends = booth.outcome-sends;
   data-stored = arrivals.outcome-data-stored;
   marker-stored = arrivals.outcome-marker-stored;
+  words = λ line n. (refl, refl, refl);
   cannot-be = takes.outcome-cannot-be;
   takes = takes.outcome-takes;
 }

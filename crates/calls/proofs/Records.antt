@@ -201,12 +201,11 @@ table-reads-marker b bytes = go (whole-or-five b)
     go (inr e) = inl (λ x. whole-not-refused (sym e ∙ spelled-reads b (x .0) (x .1) (x .2) (x .3)), ap (λ (r : MarkerRead). numberOf (judged readNumber r)) e)
 
 pub outcome-reads-marker : (b : List ℕ) (line round counter : ℕ) → MarkerSpelled b line round counter → line < 16 → From 1 1048576 counter
-    → valuesOf (markerRead b) ≡ line ∷ round ∷ counter ∷ []
+    → markerRead b ≡ Whole (markerOf line round counter)
 unfolding markerRead
 outcome-reads-marker b line round counter is few range =
-    let m = markerOf line round counter in
-    ap (λ (r : MarkerRead). valuesOf (judged readNumber r)) (spelled-reads b line round counter is)
-    ∙ ap valuesOf (sym (both-good m (in-range 1 counter 1048576 (range .0) (range .1)) few))
+    ap (judged readNumber) (spelled-reads b line round counter is)
+    ∙ sym (both-good (markerOf line round counter) (in-range 1 counter 1048576 (range .0) (range .1)) few)
 
 pub frame-reads-marker : (b : List ℕ) → Not (numberOf (markerRead b) ≡ 0) → valuesOf (markerRead b) ≡ 0 ∷ 0 ∷ 0 ∷ []
 frame-reads-marker b = go (markerRead b)

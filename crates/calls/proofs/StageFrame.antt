@@ -1,6 +1,6 @@
 -- What a take and a run of takes leave as it was, and the number that a run ends with. Assumes nothing.
 use mathlib.Core.Path.{_≡_, refl, ap, sym, _∙_, subst}
-use Prim.Native.Nat.{ℕ, zero, suc, _+_, _-_, _≤_}
+use Prim.Native.Nat.{ℕ, zero, suc, _+_, _-_, _≤_, _<_}
 use native.Mathlib.Omega.{arith}
 use mathlib.Core.Bool.{Bool, true, false, cond}
 use mathlib.Core.List.{List, _++_}
@@ -260,7 +260,8 @@ frame-runs r store out log =
 -- the log is full, or it is that of the take behind the last
 abbrev EndsRight : List ℕ → ℕ → Run → ℕ → Type 0
 EndsRight store most run n =
-    ((run .result .taken ≡ most) × (n ≡ 0)) ⊎ (n ≡ takenNumber (takeOf (run .result .next) store (drop (run .result .bytes) (run .out)) .result .answer))
+    ((run .result .taken ≡ most) × (n ≡ 0))
+    ⊎ ((run .result .taken < most) × (n ≡ takenNumber (takeOf (run .result .next) store (drop (run .result .bytes) (run .out)) .result .answer)))
 
 -- a take that a run stops before has that run's number
 end-number : (answer : Taken) → goesOn answer ≡ false → endedNumber (endOf answer) ≡ takenNumber answer
@@ -277,7 +278,7 @@ unfolding takesFrom
 run-ends most zero store r k from out log sum = inl (omega arith, refl)
 run-ends most (suc n) store r k from out log sum =
     run-step (λ run. EndsRight store most run (endedNumber (run .result .ended))) n store r k from out log
-    (run-ends most n store _ (suc k) _ _ _ (omega arith)) (λ e. inr (end-number (takeOf r store (drop from out) .result .answer) e))
+    (run-ends most n store _ (suc k) _ _ _ (omega arith)) (λ e. inr (omega arith, end-number (takeOf r store (drop from out) .result .answer) e))
 
 -- a run answers the number that its checks give, or its takes
 run-number : (r : Receiver) (store out log : List ℕ)
@@ -307,6 +308,6 @@ pub table-runs : (r : Receiver) (store out log : List ℕ)
     → let run = takesOf r store out log in
     lentTo r store
     (λ n. ((run .result .taken ≡ length log) × (n ≡ 0))
-    ⊎ (n ≡ takenNumber (takeOf (run .result .next) store (drop (run .result .bytes) (run .out)) .result .answer)))
+    ⊎ ((run .result .taken < length log) × (n ≡ takenNumber (takeOf (run .result .next) store (drop (run .result .bytes) (run .out)) .result .answer))))
     (endedNumber (run .result .ended))
 table-runs r store out log = rw (run-number r store out log) (lent-rows r store (full-run r store out log) .proof)

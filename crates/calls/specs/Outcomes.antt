@@ -12,7 +12,8 @@ use Rattle.plan.specs.Plan.{at, quantum, linePlan, chargeOf}
 use Rattle.plan.specs.Ranges.{From, PlanIn, StoreIn}
 use Rattle.plan_record.specs.Record.{planRead, planWritten}
 use Rattle.marker.specs.declared.Marker.{Marker}
-use Rattle.marker.specs.Marker.{valuesOf, markerRead, markerWritten}
+use Rattle.marker.specs.declared.MarkerRead.the-variants.{Whole}
+use Rattle.marker.specs.Marker.{markerRead, markerWritten}
 use Rattle.theory.specs.FirstForm.{firstSend, firstDue}
 use Rattle.sending.specs.declared.Sender.{Sender}
 use Rattle.sending.specs.declared.Sent.the-variants as sent
@@ -23,6 +24,7 @@ use Rattle.receiving.specs.declared.Taken.the-variants as taken
 use Rattle.receiving.specs.Receiver.{openReceiver}
 use Rattle.receiving.specs.Arriving.{Arrival, dataArrival, markerArrival}
 use Rattle.receiving.specs.Taking.{takeOf}
+use Rattle.receiving.specs.Takes.{wordOf}
 use Rattle.calls.specs.Plain.{Not, ZeroFrom, SenderArrays, ReceiverArrays, SenderIn, Ahead, Current, ReceiverIn, PlanSpelled, MarkerSpelled, placeIn, heldByte, firstOf, DataHead, MarkerHead, ItemHead, BehindLine}
 
 -- ---- opening
@@ -173,7 +175,7 @@ pub record Outcomes : Type 0 where
   -- a record reads as the plan that it spells, and a marker as the three numbers
   pub reads-plan : (b : List ℕ) (p : Plan) → PlanSpelled b p → planRead b ≡ record { number = 0; plan = p }
   pub reads-marker : (b : List ℕ) (line round counter : ℕ) → MarkerSpelled b line round counter → line < 16 → From 1 1048576 counter
-      → valuesOf (markerRead b) ≡ line ∷ round ∷ counter ∷ []
+      → markerRead b ≡ Whole (record { line = line; round = round; counter = counter })
   -- a packet goes on the current line, by the first form of sending
   pub sends : (s : Sender) (n : ℕ) → SenderArrays s → SenderIn s → From 1 (s .plan .max) n
       → (sendOf s n .answer ≡ sent.Went (s .line) (firstDue (inTheory (s .plan)) (figuresOf s) n))
@@ -181,5 +183,8 @@ pub record Outcomes : Type 0 where
   -- what is stored
   pub data-stored : (r : Receiver) (i : ℕ) (b store : List ℕ) → ReceiverArrays r → dataArrival r i b store .arrived .number ≡ 0 → Stores r i 0 b store (dataArrival r i b store)
   pub marker-stored : (r : Receiver) (i : ℕ) (b store : List ℕ) → ReceiverArrays r → markerArrival r i b store .arrived .number ≡ 0 → Stores r i 1 b store (markerArrival r i b store)
+  -- a take's word in a run's log: what it was (0 data, 1 missing, 2 behind), 4 times its line, and 64 times the length or the bytes missing
+  pub words : (line n : ℕ)
+      → (wordOf (taken.Data line n) ≡ 4 * line + 64 * n) × (wordOf (taken.Missing line n) ≡ 1 + 4 * line + 64 * n) × (wordOf (taken.Behind line) ≡ 2 + 4 * line)
   pub cannot-be : (r : Receiver) (store : List ℕ) (i : ℕ) → CannotBe r store i
   pub takes : Takes

@@ -94,10 +94,10 @@ pub record Table : Type 0 where
       → lentTo r store
       (given 0 (CurrentEmpty r) (given 9 (Not (CurrentItem r store)) (given 8 (PacketLonger r store (length out)) (given 11 (MarkerBehind r store) accepted))))
       (takenNumber (takeOf r store out .result .answer))
-  -- a run ends with the number of the take behind its last, into what is left of the output, or with 0 where the log is full
+  -- a run ends with 0 where the log is full, and else with the number of the take behind its last, into what is left of the output
   pub runs : (r : Receiver) (store out log : List ℕ)
       → let run = takesOf r store out log in
       lentTo r store
       (λ n. ((run .result .taken ≡ length log) × (n ≡ 0))
-      ⊎ (n ≡ takenNumber (takeOf (run .result .next) store (drop (run .result .bytes) (run .out)) .result .answer)))
+      ⊎ ((run .result .taken < length log) × (n ≡ takenNumber (takeOf (run .result .next) store (drop (run .result .bytes) (run .out)) .result .answer))))
       (endedNumber (run .result .ended))
