@@ -1,4 +1,4 @@
-// Links the archives that `rt staticlib driver` and `rt staticlib stage` write into the comparison. The recorder links none.
+// Links the archives that `rt staticlib driver` and `rt staticlib stage` write into the comparison. The programs of src/bin link none.
 fn main() {
     let root = std::env::var("CARGO_MANIFEST_DIR").expect("cargo sets it");
     for archive in ["stage", "driver"] {

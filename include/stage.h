@@ -7,7 +7,8 @@
  *
  * Where a length is 0 the pointer may be NULL: nothing is read or written through it.
  *
- * A refusal is answered by its number, and changes no byte, but that a refused opening leaves the closed state:
+ * A refusal is answered by its number (starkvitne.h has the table, and the ranges), and changes no byte, but that a refused opening leaves the closed
+ * state:
  *
  *   1  the plan record breaks the table of ranges or the layout, or `size` is not the largest packet plus 3 to 65,536
  *   2  the receiver's state is not valid: it was not opened, or something else has written to it
@@ -15,17 +16,14 @@
  *   4  packet length 0, or above the plan's largest packet
  *   5  not a marker record, or its counter is outside 1 to the line's quantum
  *   6  the marker record is another line's
- *   7  too little room in the line's store
+ *   7  too little room in the line's store: the packet or marker counts as lost on its line, and the next marker that comes through reports it
  *   8  output, or what a run of takes has left of it, shorter than the packet
  *   9  the store is not `lines` times `size` bytes long, or holds what no call has stored
  */
 #ifndef STAGE_H
 #define STAGE_H
 
-#include <stddef.h>
-#include <stdint.h>
-
-#include "stripes.h"
+#include "starkvitne.h"
 
 #ifdef __cplusplus
 extern "C" {
@@ -34,15 +32,15 @@ extern "C" {
 /* What is stored: line i owns the `size` bytes of the store from i times `size`, and holds `used` of them from `heads` on, round the end. */
 struct stage_rings {
     uint32_t size;
-    uint32_t heads[16];
-    uint32_t used[16];
+    uint32_t heads[STARKVITNE_LINES_MOST];
+    uint32_t used[STARKVITNE_LINES_MOST];
 };
 
 /* Whose turn it is: the current round, and the round and the counter of each line. */
 struct stage_turns {
     uint32_t round;
-    uint32_t rounds[16];
-    uint32_t counters[16];
+    uint32_t rounds[STARKVITNE_LINES_MOST];
+    uint32_t counters[STARKVITNE_LINES_MOST];
 };
 
 /* The receiver. The driver holds one for each bundle, and beside it a store of plan.lines times rings.size bytes; only these calls write to either.
@@ -52,6 +50,8 @@ struct stage_receiver {
     struct stage_rings rings;
     struct stage_turns turns;
 };
+
+STARKVITNE_SIZE(stage_receiver, 340);
 
 /* Opens a receiver on the plan of a record, with `size` bytes of store for each line. Answers 0, or 1 with the closed state, all zeros, which
  * every other call refuses. What the store holds before does not matter. */
@@ -94,6 +94,8 @@ struct stage_run {
 
 /* A run's `why` where the log is full: no take's word, since no packet is empty. */
 #define STAGE_FULL 0u
+
+STARKVITNE_SIZE(stage_run, 24);
 
 /* Takes, one after another, until one waits or is refused, or the log is full. Each of the words in log is STAGE_DATA, STAGE_MISSING or
  * STAGE_BEHIND, and the packets lie one behind another at the front of out; the rest of log and out stays. What was taken stands, however the run

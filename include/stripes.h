@@ -7,7 +7,8 @@
  *
  * Where a length is 0 the pointer may be NULL: nothing is read or written through it.
  *
- * A refusal is answered by its number, and changes no byte, but that a refused opening leaves the closed state:
+ * A refusal is answered by its number (starkvitne.h has the table, and the ranges), and changes no byte, but that a refused opening leaves the closed
+ * state:
  *
  *   1  the plan record breaks the table of ranges or the layout
  *   2  the sender's state is not valid: it was not opened, or something else has written to it
@@ -20,8 +21,7 @@
 #ifndef STRIPES_H
 #define STRIPES_H
 
-#include <stddef.h>
-#include <stdint.h>
+#include "starkvitne.h"
 
 #ifdef __cplusplus
 extern "C" {
@@ -75,21 +75,15 @@ uint32_t stripes_copy_plan(const uint8_t *record, size_t record_len, uint8_t *ou
 
 /* ---- The sender. The driver holds one for each bundle; only these calls write to it. */
 
-/* What both ends agree on. Entries for lines from `lines` on are ignored and kept. */
-struct stripes_plan {
-    uint32_t lines;
-    uint32_t max;
-    uint32_t interval;
-    uint32_t quanta[16];
-};
-
 struct stripes_sender {
     struct stripes_plan plan;
     uint32_t line;
     uint32_t countdown;
-    uint32_t rounds[16];
-    uint32_t counters[16];
+    uint32_t rounds[STARKVITNE_LINES_MOST];
+    uint32_t counters[STARKVITNE_LINES_MOST];
 };
+
+STARKVITNE_SIZE(stripes_sender, 212);
 
 /* Of an answer of stripes_send below STRIPES_REFUSED: the line that the packet goes to, and whether markers are due on every line. */
 #define STRIPES_LINE(answer) ((answer) & 15u)

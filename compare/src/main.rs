@@ -68,7 +68,7 @@ fn print_calls() -> Vec<String> {
 
 fn usage(wrong: &str) -> ! {
     let parts: Vec<&str> = PARTS.iter().map(|part| part.name).collect();
-    println!("{wrong}: run [TIMES [SEED]], run again PART SEED (parts: {}), run record DIR", parts.join(", "));
+    println!("{wrong}: run [TIMES [SEED]], run again PART SEED (parts: {}), run record DIR, run draw DIR", parts.join(", "));
     std::process::exit(2)
 }
 

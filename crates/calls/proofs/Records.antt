@@ -37,7 +37,7 @@ use Rattle.calls.specs.Table.{given, accepted, short}
 use Rattle.calls.specs.Outcomes.{WritesOut}
 use Rattle.calls.specs.Frame.{Writes, zeroPlan}
 use Rattle.calls.proofs.Markers.{marker-bytes, spelled-reads, marker-spelled, WholeOrFive, whole-or-five, read-counter, read-line, judged-number}
-use Rattle.calls.proofs.Rows.{Gives, ends, unless, range-row, below-row, settled, room-row, answers, answered}
+use Rattle.calls.proofs.Rows.{Gives, ends, unless, range-row, below-row, settled, room-row, writer-number, answered}
 
 -- ---- writers: the table
 
@@ -127,7 +127,7 @@ outcome-reads-plan b p is =
     let good = plan-good p (is .in-range) in
     let fits : leb n (length out) ≡ true = le-leb n (length out) (omega (arith, length-replicate {A = ℕ} n 0)) in
     let number : check (planOk p) 1 (room (planBytes p) out) ≡ 0 = simp (good, fits) in
-    let answer : writtenNumber (planWritten p out .answer) ≡ 0 = answers _ (planBytes p) out ∙ number in
+    let answer : writtenNumber (planWritten p out .answer) ≡ 0 = writer-number _ (planBytes p) out ∙ number in
     let back = written-reads-back p out (is .sixteen) answer in
     let front = accepted-bytes _ (planBytes p) out answer in
     ap planRead (is .bytes ∙ sym (plan-bytes p) ∙ sym (front .1)) ∙ back .1

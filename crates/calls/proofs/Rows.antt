@@ -67,9 +67,9 @@ pub room-row : (bytes out : List ℕ) → Gives (given 8 (short bytes out) accep
 room-row bytes out = at-most-row 8 (length bytes) (length out) (λ h. ends)
 
 -- a writer answers the number that its checks give
-pub answers : (number : ℕ) (bytes out : List ℕ) → writtenNumber (outcome number bytes out .answer) ≡ number
+pub writer-number : (number : ℕ) (bytes out : List ℕ) → writtenNumber (outcome number bytes out .answer) ≡ number
 unfolding outcome
-answers number bytes out = settled (λ (o : Outcome). writtenNumber (o .answer) ≡ number) number _ _ sym (λ n. refl)
+writer-number number bytes out = settled (λ (o : Outcome). writtenNumber (o .answer) ≡ number) number _ _ sym (λ n. refl)
 
 pub answered : {rows : ℕ → Type 0} {number : ℕ} (bytes out : List ℕ) → Gives rows number → rows (writtenNumber (outcome number bytes out .answer))
-answered {number = number} bytes out g = rw (answers number bytes out) (g .proof)
+answered {number = number} bytes out g = rw (writer-number number bytes out) (g .proof)
