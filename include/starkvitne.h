@@ -1,4 +1,4 @@
-/* Starkvitne: what the booth's calls (stripes.h) and the stage's (stage.h) share: the numbers of refusals, the table of ranges, and the plan.
+/* Starkvitne: what the booth's calls (booth.h) and the stage's (stage.h) share: the numbers of refusals, the table of ranges, and the plan.
  *
  * The archives are code for x86-64, by the calling convention of its C compilers on Linux. */
 #ifndef STARKVITNE_H
@@ -8,8 +8,21 @@
 #include <stdint.h>
 
 /* The interface; the first number rises where a program has to be changed for it. */
-#define STARKVITNE_VERSION_MAJOR 0
-#define STARKVITNE_VERSION_MINOR 1
+#define STARKVITNE_VERSION_MAJOR 1
+#define STARKVITNE_VERSION_MINOR 0
+
+/* ---- How a call answers.
+ *
+ * Every call answers in one way, be it in 32 bits or in 64: bit 8 set is a refusal, and its number stands in the eight bits below, so that the whole
+ * answer is 256 plus the number. With bit 8 clear it is what the call's own words say; 0 where they say nothing. The macros that take an answer apart
+ * keep bit 8: of a refusal none of them gives a line, a length or a kind that there is.
+ *
+ * One call is older than this rule: stripes_check_plan answers the number itself, or 0. */
+#define STARKVITNE_REFUSED(answer) (((answer) & 256u) != 0)
+#define STARKVITNE_NUMBER(answer) ((uint32_t)((answer) & 255u))
+
+/* The answer that refuses by a number, to compare with. */
+#define STARKVITNE_REFUSAL(number) (256u + (number))
 
 /* ---- The table of numbers. docs/NUMBERS.md says what to do on each. */
 
@@ -36,7 +49,7 @@ static inline const char *starkvitne_text(uint32_t number)
     case STARKVITNE_STATE: return "the state is not one that the calls leave";
     case STARKVITNE_LINE: return "no such line in this plan";
     case STARKVITNE_LENGTH: return "a packet of no bytes, or longer than Max";
-    case STARKVITNE_NO_MARKER: return "these bytes are no marker, or its counter is above the line's quantum";
+    case STARKVITNE_NO_MARKER: return "these bytes are no marker or no number, or the counter is above the line's quantum";
     case STARKVITNE_OTHER_LINE: return "the marker names another line";
     case STARKVITNE_NO_ROOM: return "the line's ring is full";
     case STARKVITNE_SHORT_OUTPUT: return "the output is shorter than what is to be written";
@@ -62,6 +75,11 @@ static inline const char *starkvitne_text(uint32_t number)
 #define STARKVITNE_QUANTUM_MOST 1048576u
 #define STARKVITNE_STORE_LEAST(max) ((max) + 3u)
 #define STARKVITNE_STORE_MOST 65536u
+
+/* No number, marker record or plan record is longer: a buffer of that size has room for every one. */
+#define STRIPES_NUMBER_MOST 5u
+#define STRIPES_MARKER_MOST 9u
+#define STRIPES_PLAN_MOST 54u
 
 /* What both ends agree on. Entries for lines from `lines` on are ignored and kept. */
 struct stripes_plan {

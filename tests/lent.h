@@ -1,4 +1,4 @@
-/* What the C programs over the archives share: the count of checks, and what a call is lent.
+/* What the C programs over the archives share: the count of checks, what a refusal is, and what a call is lent.
  *
  * A program makes every call in two passes. In the first it lends its own buffers. In the second, `exact`, it lends copies on the heap of exactly
  * the length that the call is told, and frees them behind it: a memory checker then sees one byte read or written past an end, on either side. A
@@ -7,7 +7,7 @@
 #ifndef LENT_H
 #define LENT_H
 
-#include "stripes.h"
+#include "booth.h"
 
 #include <stdio.h>
 #include <stdlib.h>
@@ -23,6 +23,30 @@ static void check(int holds, const char *what)
         failures++;
         printf("FAILED: %s%s\n", what, exact ? " (exact)" : "");
     }
+}
+
+/* That an answer refuses by this number, and that nothing which takes an answer apart finds something else in it: no length, no line, no counter and,
+ * for a program that includes stage.h first, no kind. */
+static void refuses(uint64_t answer, uint32_t number, const char *what)
+{
+    uint32_t low = (uint32_t)answer;
+
+    check(answer == UINT64_C(256) + number && answer == STARKVITNE_REFUSAL(number), what);
+    check(STARKVITNE_REFUSED(answer) && STARKVITNE_NUMBER(answer) == number, what);
+    check(STARKVITNE_REFUSED(low) && STARKVITNE_NUMBER(low) == number, what);
+    check(STRIPES_PLACE(answer) >= 256 && STRIPES_LINE(answer) >= 256 && STRIPES_LINE(low) >= 256, what);
+    check(STRIPES_MARKER_LINE(answer) >= 256 && STRIPES_MARKER_COUNTER(answer) == 0, what);
+    check(!STRIPES_DUE(answer) && !STRIPES_DUE(low) && low > STRIPES_PLAN_MOST, what);
+#ifdef STAGE_H
+    check(STAGE_LINE(answer) >= 256 && STAGE_KIND(answer) > STAGE_FULL, what);
+#endif
+}
+
+/* Every refusal that there could be, by the macros alone. */
+static void all_refusals(void)
+{
+    for (uint32_t number = 0; number < 256; number++)
+        refuses(256 + number, number, "a refusal, by the macros");
 }
 
 /* A NULL stays NULL: it is lent with length 0. A buffer of length 0 is a heap buffer of no bytes. */
@@ -105,6 +129,28 @@ static inline uint64_t lent_read_marker(const uint8_t *bytes, size_t len)
     return answer;
 }
 
+static inline uint32_t lent_write_plan(const struct stripes_plan *plan, uint8_t *out, size_t out_len)
+{
+    struct stripes_plan *p = lend(plan, sizeof *plan);
+    uint8_t *o = lend(out, out_len);
+    uint32_t answer = stripes_write_plan(p, o, out_len);
+
+    put_away(p, plan, sizeof *plan);
+    give_back(o, out, out_len);
+    return answer;
+}
+
+static inline uint32_t lent_read_plan(struct stripes_plan *plan, const uint8_t *record, size_t record_len)
+{
+    struct stripes_plan *p = lend(plan, sizeof *plan);
+    uint8_t *r = lend(record, record_len);
+    uint32_t answer = stripes_read_plan(p, r, record_len);
+
+    give_back(p, plan, sizeof *plan);
+    put_away(r, record, record_len);
+    return answer;
+}
+
 static inline uint32_t lent_copy_plan(const uint8_t *record, size_t record_len, uint8_t *out, size_t out_len)
 {
     uint8_t *r = lend(record, record_len), *o = lend(out, out_len);
@@ -151,6 +197,8 @@ static inline uint32_t lent_marker(const struct stripes_sender *sender, uint32_t
 #define stripes_read_number lent_read_number
 #define stripes_write_number lent_write_number
 #define stripes_read_marker lent_read_marker
+#define stripes_write_plan lent_write_plan
+#define stripes_read_plan lent_read_plan
 #define stripes_copy_plan lent_copy_plan
 #define stripes_open lent_open
 #define stripes_send lent_send

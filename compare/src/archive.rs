@@ -1,6 +1,6 @@
-//! The proved functions of both archives, the driver's (include/stripes.h) and the stage's. A slice is a pointer and a length.
+//! The proved functions of both archives, the booth's (include/booth.h) and the stage's (include/stage.h). A slice is a pointer and a length.
 
-use crate::paper::Sender;
+use crate::paper::{Plan, Sender};
 use crate::stage::Receiver;
 use crate::taking::StageRun;
 
@@ -10,6 +10,8 @@ extern "C" {
     fn stripes_read_number(bytes: *const u8, bytes_len: usize) -> u64;
     fn stripes_write_number(value: u32, out: *mut u8, out_len: usize) -> u32;
     fn stripes_read_marker(bytes: *const u8, bytes_len: usize) -> u64;
+    fn stripes_write_plan(plan: *const Plan, out: *mut u8, out_len: usize) -> u32;
+    fn stripes_read_plan(plan: *mut Plan, record: *const u8, record_len: usize) -> u32;
     fn stripes_copy_plan(record: *const u8, record_len: usize, out: *mut u8, out_len: usize) -> u32;
     fn stripes_open(sender: *mut Sender, record: *const u8, record_len: usize) -> u32;
     fn stripes_send(sender: *mut Sender, length: usize) -> u32;
@@ -40,6 +42,14 @@ pub fn write_number(value: u32, out: &mut [u8]) -> u32 {
 
 pub fn read_marker(bytes: &[u8]) -> u64 {
     unsafe { stripes_read_marker(bytes.as_ptr(), bytes.len()) }
+}
+
+pub fn write_plan(plan: &Plan, out: &mut [u8]) -> u32 {
+    unsafe { stripes_write_plan(plan, out.as_mut_ptr(), out.len()) }
+}
+
+pub fn read_plan(plan: &mut Plan, record: &[u8]) -> u32 {
+    unsafe { stripes_read_plan(plan, record.as_ptr(), record.len()) }
 }
 
 pub fn copy_plan(record: &[u8], out: &mut [u8]) -> u32 {

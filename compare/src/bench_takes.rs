@@ -1,6 +1,7 @@
 //! Times the proved take loop against the plain one: the same stored sessions, the same machine, both optimised, buffers cleared, turn about
 //! in one run. Prints rows of the benchmark's table; those of the archive's takes called one by one stand beside the same plain loop.
 
+use crate::answers::{kind, value, went, BEHIND, DATA, FULL};
 use crate::bench::{plan, row, timed, Range, LINES, RANGES, TURNS};
 use crate::chance::Chance;
 use crate::paper::Sender;
@@ -80,16 +81,24 @@ fn ends(lines: usize) -> (Sender, Receiver) {
     (sender.1, receiver.1)
 }
 
+/// A packet and what its send came to: its line, and whether markers are due.
+struct Packet {
+    line: u32,
+    due: bool,
+    bytes: Vec<u8>,
+}
+
 /// Sends until a packet finds no room, with the markers that are due; that packet is kept for the next filling.
-fn fill(sender: &mut Sender, stored: &mut Stored, packet: &mut (u32, Vec<u8>), chance: &mut Chance, (low, high): Range) {
-    while packet.1.is_empty() || stored.receiver.data(packet.0 & 15, &packet.1, &mut stored.store) == 0 {
-        stored.items += usize::from(!packet.1.is_empty());
-        for line in (0..sender.plan.lines).filter(|_| packet.0 & 16 != 0) {
+fn fill(sender: &mut Sender, stored: &mut Stored, packet: &mut Packet, chance: &mut Chance, (low, high): Range) {
+    while packet.bytes.is_empty() || stored.receiver.data(packet.line, &packet.bytes, &mut stored.store) == 0 {
+        stored.items += usize::from(!packet.bytes.is_empty());
+        for line in (0..sender.plan.lines).filter(|_| packet.due) {
             let (length, record) = sender.marker(line, &[0; 9]);
             stored.items += usize::from(stored.receiver.marker(line, &record[..length as usize], &mut stored.store) == 0);
         }
         let length = chance.between(low, high) as usize;
-        *packet = (sender.send(length), chance.bytes(length));
+        let (line, due) = went(sender.send(length)).expect("a length in range");
+        *packet = Packet { line, due, bytes: chance.bytes(length) };
     }
 }
 
@@ -98,7 +107,7 @@ fn stored(seed: usize, lines: usize, range: Range) -> Stored {
     let chance = &mut Chance::new(2 * seed as u64 + 1); // odd, for a seed and the one above it can be the same
     let (mut sender, receiver) = ends(lines);
     let mut stored = Stored { receiver, store: vec![0; lines * SIZE], items: 0 };
-    let mut packet = (0, Vec::new());
+    let mut packet = Packet { line: 0, due: false, bytes: Vec::new() };
     fill(&mut sender, &mut stored, &mut packet, chance, range);
     let mut log = vec![0; stored.items];
     stored.items -= stored.receiver.takes(&stored.store, &mut vec![0; lines * SIZE], &mut log).taken;
@@ -111,15 +120,15 @@ fn one_by_one(receiver: &mut Receiver, store: &[u8], out: &mut [u8], log: &mut [
     let mut bytes = 0;
     for (taken, place) in log.iter_mut().enumerate() {
         let word = archive::take(receiver, store, &mut out[bytes..]);
-        if word & 3 == 3 {
+        if kind(word) > BEHIND {
             return StageRun { why: word, taken, bytes };
         }
-        if word & 3 == 0 {
-            bytes += (word / 64) as usize;
+        if kind(word) == DATA {
+            bytes += value(word) as usize;
         }
         *place = word;
     }
-    StageRun { why: 0, taken: log.len(), bytes }
+    StageRun { why: FULL, taken: log.len(), bytes }
 }
 
 /// Every side must leave the same state, store, output and log.

@@ -1,18 +1,30 @@
 //! How often each thing came up, by group. What a run must have seen is laid out from the start, and a run that has not seen it fails.
 
+use crate::answers::FULL;
+use crate::taking::Outcome;
+
 const LINES: [&str; 16] = ["1", "2", "3", "4", "5", "6", "7", "8", "9", "10", "11", "12", "13", "14", "15", "16"];
 const PLAN_ENDS: [&str; 10] =
     ["N 1", "N 16", "Max 64", "Max 9000", "K 1", "K 65535", "q Max", "q 1048576", "all of these low", "all of these high"];
+const FIELDS: [&str; 4] = ["lines", "max", "interval", "quanta"];
 const RECORDS: [&str; 7] = ["whole", "cut", "byte put in", "byte changed", "overlong number", "byte taken out", "noise"];
 const TAKES: [&str; 8] = ["data", "marker", "marker, bytes missing", "11", "waiting", "2", "8", "9"];
 
 /// Group by group, in the order in which they are printed.
 const WANTED: &[(&str, &[&str])] = &[
-    ("numbers read", &["1 byte", "2 bytes", "3 bytes", "4 bytes", "5 bytes", "none"]),
+    ("numbers read", &["1 byte", "2 bytes", "3 bytes", "4 bytes", "5 bytes", "5"]),
     ("numbers written", &["1 byte", "2 bytes", "3 bytes", "4 bytes", "5 bytes", "8"]),
     ("markers read by themselves", &RECORDS),
     ("markers read by themselves, answers", &["good", "3", "5"]),
     ("plans copied", &["copied", "1", "8"]),
+    ("plans written", &["written", "1", "8"]),
+    ("plans written, by lines", &LINES),
+    ("plans written, at an end of a range", &PLAN_ENDS),
+    ("plans with one field changed, written", &FIELDS),
+    ("plans with one field changed, refused with 1", &FIELDS),
+    ("plans of any words", &["written", "1"]),
+    ("plans read", &["read back", "whole", "cut", "byte put in", "byte changed", "overlong number", "byte taken out", "noise"]),
+    ("plans read, answers", &["good", "1"]),
     ("plan records", &RECORDS),
     ("plan records, answers", &["good", "1"]),
     ("markers written", &["3 bytes", "4 bytes", "5 bytes", "6 bytes", "7 bytes", "8 bytes", "9 bytes", "3", "5", "8"]),
@@ -104,7 +116,7 @@ impl Counts {
 
     /// Why a run of takes ended.
     pub fn run(&mut self, group: &'static str, why: u64) {
-        self.count(group, if why == 0 { "full" } else { take_name(why) });
+        self.count(group, if why == FULL { "full" } else { take_name(why) });
     }
 
     /// One line a group.
@@ -123,12 +135,12 @@ impl Counts {
 }
 
 pub fn take_name(word: u64) -> &'static str {
-    match (word & 3, word / 64) {
-        (0, _) => "data",
-        (1, 0) => "marker",
-        (1, _) => "marker, bytes missing",
-        (2, _) => "11",
-        (_, 0) => "waiting",
-        (_, number) => number_name(number as u32),
+    match Outcome::of(word) {
+        Outcome::Data { .. } => "data",
+        Outcome::Marker { missing: 0, .. } => "marker",
+        Outcome::Marker { .. } => "marker, bytes missing",
+        Outcome::Behind { .. } => "11",
+        Outcome::Waiting { .. } => "waiting",
+        Outcome::Refused(number) => number_name(number),
     }
 }

@@ -1,6 +1,7 @@
 //! Calls of states and stores that no session leaves: one field changed, a store of another length, noise in a ring, a forged item, or several
 //! of these (forge.rs has how), with arguments by chance.
 
+use crate::answers::said;
 use crate::cases::begin;
 use crate::chance::Chance;
 use crate::counts::{take_name, Counts};
@@ -105,25 +106,25 @@ fn output(pair: &Pair, chance: &mut Chance) -> Vec<u8> {
 }
 
 /// The number of a refusal that a word tells, else 0.
-fn refused(word: u64) -> u64 {
-    if word & 3 == 3 { word / 64 } else { 0 }
+fn refused(word: u64) -> u32 {
+    said(word).err().unwrap_or(0)
 }
 
 /// One call. Answers its number where it is refused, else 0.
-fn call(pair: &mut Pair, damage: &Damage, chance: &mut Chance, counts: &mut Counts) -> u64 {
+fn call(pair: &mut Pair, damage: &Damage, chance: &mut Chance, counts: &mut Counts) -> u32 {
     let line = if chance.one_in(3) { chance.between(0, 17) as usize } else { some_line(&pair.receiver, chance) };
     match chance.between(0, 5) {
         0 => {
             let number = pair.data(line as u32, &data(&pair.receiver, chance));
             counts.arrival("damaged receivers, data", number);
-            u64::from(number)
+            number
         }
         1 => {
             let (record, what) = marker(&pair.receiver, line, chance);
             let number = pair.marker(line as u32, &record);
             counts.count("marker records that came", what);
             counts.arrival("damaged receivers, markers", number);
-            u64::from(number)
+            number
         }
         2 => {
             let most = chance.between(0, 6);

@@ -1,5 +1,6 @@
 //! The session on paper with packet 2 lost, as the specification tells it: once with the markers after packet 5, once without markers.
 
+use crate::answers::went;
 use crate::cases::{begin, differs};
 use crate::counts::Counts;
 use crate::pair::{opened, Pair};
@@ -11,12 +12,11 @@ const LENGTHS: [usize; 8] = [400, 500, 300, 450, 200, 500, 500, 100];
 
 /// A packet handed out by its number on paper (its bytes are all that number), or what else a take comes to.
 fn told(word: u64, out: &[u8]) -> String {
-    let (kind, line, value) = (word & 3, word / 4 & 15, word / 64);
-    match kind {
-        0 => format!("{}", out[0]),
-        1 => format!("line {line} misses {value}"),
-        _ if word == (Outcome::Waiting { line: line as usize }).word() => format!("waiting on {line}"),
-        _ => format!("{kind} {line} {value}"),
+    match Outcome::of(word) {
+        Outcome::Data { .. } => format!("{}", out[0]),
+        Outcome::Marker { line, missing } => format!("line {line} misses {missing}"),
+        Outcome::Waiting { line } => format!("waiting on {line}"),
+        other => format!("{other:?}"),
     }
 }
 
@@ -25,9 +25,9 @@ fn session(with_markers: bool) -> (String, u32) {
     let (_, mut sender) = Sender::open(&PLAN);
     let mut pair = Pair::new(opened(&PLAN, 4000).1, vec![0; 8000]);
     for (number, length) in (1u8..).zip(LENGTHS) {
-        let answer = sender.send(length);
+        let (line, _) = went(sender.send(length)).expect("a length in range");
         if number != 2 {
-            pair.data(answer & 15, &vec![number; length]);
+            pair.data(line, &vec![number; length]);
         }
         for line in (0..2).filter(|_| with_markers && number == 5) {
             let (length, record) = sender.marker(line, &[0; 9]);

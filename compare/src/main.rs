@@ -4,7 +4,10 @@
 //!     compare [TIMES [SEED]]    a run, so many times as long as usual
 //!     compare again PART SEED   one case
 //!     compare bench             times sends and takes instead
+//!
+//! Where the archives are for another processor than the machine's, all of it runs under an emulator; STRIPES_RUN names that for `stripes`.
 
+mod answers;
 mod archive;
 mod bench;
 mod bench_takes;
@@ -29,6 +32,7 @@ mod records;
 mod sending;
 mod session;
 mod stage;
+mod structs;
 mod taking;
 mod text;
 
@@ -38,10 +42,11 @@ use counts::Counts;
 const SEED: u64 = 2026;
 const LEAST_CALLS: u64 = 1_000_000;
 
-const PARTS: [Part; 14] = [
+const PARTS: [Part; 15] = [
     Part { name: "numbers", cases: 300_000, play: readings::numbers, again: readings::numbers },
     Part { name: "readings", cases: 200_000, play: readings::markers, again: readings::markers },
     Part { name: "copies", cases: 100_000, play: readings::plans, again: readings::plans },
+    Part { name: "structs", cases: 150_000, play: structs::plans, again: structs::plans },
     Part { name: "plans", cases: 200_000, play: records::plans, again: records::plans },
     Part { name: "markers", cases: 400_000, play: records::markers, again: records::markers },
     Part { name: "senders", cases: 2_000, play: sending::sessions, again: sending::sessions },

@@ -1,6 +1,7 @@
 //! A receiver of each side, the archive's and the second program's. Every call goes to both; then answer, state, store, output and log must
 //! be equal. Behind each output and log lie a few places that are not lent, and must stay.
 
+use crate::answers::done;
 use crate::cases::differs;
 use crate::paper::Plan;
 use crate::stage::{Receiver, Rings, Turns};
@@ -25,15 +26,15 @@ fn unopened() -> Receiver {
     Receiver { plan, rings, turns }
 }
 
-/// The answer of an opening, and the state it leaves.
+/// The number that an opening gets, and the state it leaves.
 pub fn opened(record: &[u8], size: u32) -> (u32, Receiver) {
     let mut receiver = unopened();
     let proved = (proved::open_receiver(&mut receiver, record, size), receiver);
-    let second = Receiver::open(record, size);
-    if proved != second {
-        differs("opening a receiver", format!("{record:02x?} {size}: {proved:?} and {second:?}"));
+    let (number, second) = Receiver::open(record, size);
+    if proved != (done(number), second) {
+        differs("opening a receiver", format!("{record:02x?} {size}: {proved:?} and {number} {second:?}"));
     }
-    proved
+    (number, receiver)
 }
 
 fn first_difference<T: PartialEq>(one: &[T], other: &[T]) -> Option<usize> {
@@ -70,18 +71,22 @@ impl Pair {
         proved
     }
 
+    /// The number that data gets.
     pub fn data(&mut self, line: u32, bytes: &[u8]) -> u32 {
         let before = self.receiver;
         let proved = proved::data_arrives(&mut self.receiver, line, bytes, &mut self.store);
-        let second = self.second.data(line, bytes, &mut self.second_store);
-        self.hold(&before, &|| format!("data on line {line}, length {}", bytes.len()), proved, second)
+        let number = self.second.data(line, bytes, &mut self.second_store);
+        self.hold(&before, &|| format!("data on line {line}, length {}", bytes.len()), proved, done(number));
+        number
     }
 
+    /// The number that a marker gets.
     pub fn marker(&mut self, line: u32, bytes: &[u8]) -> u32 {
         let before = self.receiver;
         let proved = proved::marker_arrives(&mut self.receiver, line, bytes, &mut self.store);
-        let second = self.second.marker(line, bytes, &mut self.second_store);
-        self.hold(&before, &|| format!("a marker on line {line}, {bytes:02x?}"), proved, second)
+        let number = self.second.marker(line, bytes, &mut self.second_store);
+        self.hold(&before, &|| format!("a marker on line {line}, {bytes:02x?}"), proved, done(number));
+        number
     }
 
     /// The answer of a take, and the output as it leaves it.

@@ -4,6 +4,8 @@
 //! is there in both of the specification's forms: `Sender` is the first, with a counter for each line, and `Definition` the second, by the
 //! bytes that each line has carried.
 
+use crate::answers::{refusal, sent};
+
 /// The table's numbers.
 pub const PLAN: u32 = 1;
 pub const STATE: u32 = 2;
@@ -15,9 +17,6 @@ pub const ROOM: u32 = 7;
 pub const OUTPUT: u32 = 8;
 pub const STORE: u32 = 9;
 pub const COUNTER: u32 = 10;
-
-/// An answer of this or above is a refusal.
-pub const REFUSED: u32 = 256;
 
 /// Low seven bits first, the top bit of a byte set when another follows.
 pub fn written(number: u128) -> Vec<u8> {
@@ -80,20 +79,20 @@ pub fn check_plan(record: &[u8]) -> u32 {
 }
 
 /// The answer of an exported writer, and the output as it leaves it: a record goes to the front, unless something refuses it.
-pub fn put(refusal: Option<u32>, record: &[u8], out: &[u8]) -> (u32, Vec<u8>) {
+pub fn put(number: Option<u32>, record: &[u8], out: &[u8]) -> (u32, Vec<u8>) {
     let mut after = out.to_vec();
-    if let Some(number) = refusal {
-        return (REFUSED + number, after);
+    if let Some(number) = number {
+        return (refusal(number), after);
     }
     if out.len() < record.len() {
-        return (REFUSED + OUTPUT, after);
+        return (refusal(OUTPUT), after);
     }
     after[..record.len()].copy_from_slice(record);
     (record.len() as u32, after)
 }
 
-fn put_marker(refusal: Option<u32>, line: u32, round: u32, counter: u32, out: &[u8]) -> (u32, Vec<u8>) {
-    put(refusal, &record(&[u64::from(line), u64::from(round), u64::from(counter)]), out)
+fn put_marker(number: Option<u32>, line: u32, round: u32, counter: u32, out: &[u8]) -> (u32, Vec<u8>) {
+    put(number, &record(&[u64::from(line), u64::from(round), u64::from(counter)]), out)
 }
 
 /// The standalone reading of a marker: line, round and counter, or the number.
@@ -106,30 +105,33 @@ pub fn read_marker(bytes: &[u8]) -> Result<[u64; 3], u32> {
     }
 }
 
+/// Reads a plan record: the number, and the plan, all zeros where it is refused.
+pub fn read_plan(bytes: &[u8]) -> (u32, Plan) {
+    Plan::read(bytes).map_or((PLAN, Plan::default()), |plan| (0, plan))
+}
+
+/// Writes the record of a plan, where it is in range.
+pub fn write_plan(plan: &Plan, out: &[u8]) -> (u32, Vec<u8>) {
+    put((!plan.in_range()).then_some(PLAN), &plan.record(), out)
+}
+
 /// Reads a plan record and writes that plan.
 pub fn copy_plan(bytes: &[u8], out: &[u8]) -> (u32, Vec<u8>) {
-    match Plan::read(bytes) {
-        Some(plan) => {
-            let mut all = vec![plan.lines, plan.max, plan.interval];
-            all.extend(&plan.quanta[..plan.lines as usize]);
-            put(None, &record(&all.iter().map(|number| u64::from(*number)).collect::<Vec<u64>>()), out)
-        }
-        None => (REFUSED + PLAN, out.to_vec()),
-    }
+    Plan::read(bytes).map_or((refusal(PLAN), out.to_vec()), |plan| write_plan(&plan, out))
 }
 
 pub fn write_marker(line: u32, round: u32, counter: u32, out: &[u8]) -> (u32, Vec<u8>) {
-    let refusal = if line >= 16 {
+    let number = if line >= 16 {
         Some(LINE)
     } else if counter == 0 || counter > 1_048_576 {
         Some(MARKER)
     } else {
         None
     };
-    put_marker(refusal, line, round, counter, out)
+    put_marker(number, line, round, counter, out)
 }
 
-/// As include/stripes.h has it.
+/// As include/starkvitne.h has it.
 #[repr(C)]
 #[derive(Clone, Copy, Debug, Default, PartialEq, Eq)]
 pub struct Plan {
@@ -161,6 +163,12 @@ impl Plan {
         Some(plan)
     }
 
+    /// Its record, in range or not.
+    pub fn record(&self) -> Vec<u8> {
+        let quanta = &self.quanta[..self.lines.min(16) as usize];
+        record(&[self.lines, self.max, self.interval].iter().chain(quanta).map(|number| u64::from(*number)).collect::<Vec<u64>>())
+    }
+
     pub fn in_range(&self) -> bool {
         (1..=16).contains(&self.lines)
             && (64..=9000).contains(&self.max)
@@ -188,19 +196,19 @@ impl Sender {
 
     pub fn send(&mut self, length: usize) -> u32 {
         if !self.is_valid() {
-            return REFUSED + STATE;
+            return refusal(STATE);
         }
         if length == 0 || length > self.plan.max as usize {
-            return REFUSED + LENGTH;
+            return refusal(LENGTH);
         }
         let line = self.line as usize;
         let quantum = i64::from(self.plan.quanta[line]);
         let mut counter = i64::from(self.counters[line]) - length as i64;
-        let mut due = 0;
+        let mut due = false;
         if counter <= 0 {
             counter += quantum;
             if counter <= 0 {
-                return REFUSED + COUNTER;
+                return refusal(COUNTER);
             }
             self.rounds[line] = self.rounds[line].wrapping_add(1);
             self.line = (self.line + 1) % self.plan.lines;
@@ -208,16 +216,16 @@ impl Sender {
                 self.countdown -= 1;
                 if self.countdown == 0 {
                     self.countdown = self.plan.interval;
-                    due = 16;
+                    due = true;
                 }
             }
         }
         self.counters[line] = counter as u32;
-        line as u32 + due
+        sent(line as u32, due)
     }
 
     pub fn marker(&self, line: u32, out: &[u8]) -> (u32, Vec<u8>) {
-        let refusal = if !self.is_valid() {
+        let number = if !self.is_valid() {
             Some(STATE)
         } else if line >= self.plan.lines {
             Some(LINE)
@@ -225,7 +233,7 @@ impl Sender {
             None
         };
         let at = line.min(15) as usize;
-        put_marker(refusal, line, self.rounds[at], self.counters[at], out)
+        put_marker(number, line, self.rounds[at], self.counters[at], out)
     }
 }
 
@@ -277,20 +285,20 @@ impl Definition {
         self.lines().min_by_key(|line| self.round(*line)).expect("a plan has a line")
     }
 
-    /// The line of a packet, 16 added when it ends a full round whose number since the opening is a multiple of the interval; or the refusal.
+    /// The line of a packet, with markers due when it ends a full round whose number since the opening is a multiple of the interval; or the refusal.
     pub fn send(&mut self, length: usize) -> u32 {
         if length == 0 || length > self.plan.max as usize {
-            return REFUSED + LENGTH;
+            return refusal(LENGTH);
         }
         let line = self.choice();
         let before = self.round(line);
         self.carried[line] += length as u128;
         if self.round(line) == before || self.choice() != 0 {
-            return line as u32;
+            return sent(line as u32, false);
         }
         self.full_rounds += 1;
         self.check_share();
-        line as u32 + if self.left_of_interval() == u128::from(self.plan.interval) { 16 } else { 0 }
+        sent(line as u32, self.left_of_interval() == u128::from(self.plan.interval))
     }
 
     /// At the end of a full round each line has carried as many quanta, and less than one largest packet more.

@@ -1,9 +1,10 @@
 //! The take loop as one would write it in Rust for speed, with the same answers: state and store are checked once for a run, each item by
 //! itself. The benchmark times it beside the archive's.
 
+use crate::answers::FULL;
 use crate::paper::{OUTPUT, STORE};
 use crate::stage::Receiver;
-use crate::taking::StageRun;
+use crate::taking::{Outcome, StageRun};
 
 /// A line's bytes in the store, from its head on.
 struct Ring<'a> {
@@ -75,7 +76,7 @@ struct Step {
 }
 
 fn refused(number: u32) -> u64 {
-    3 + 64 * u64::from(number)
+    Outcome::Refused(number).word()
 }
 
 /// Takes the bytes of a data item to the output, where it is one and has room.
@@ -92,7 +93,7 @@ fn take_data(receiver: &mut Receiver, line: usize, ring: &Ring, bytes: usize, ou
     } else {
         receiver.turns.counters[line] = counter - length;
     }
-    Ok(Step { word: 4 * line as u64 + 64 * u64::from(length), bytes, raised })
+    Ok(Step { word: Outcome::Data { line, length: bytes }.word(), bytes, raised })
 }
 
 /// Applies a marker item, where it is one.
@@ -107,19 +108,19 @@ fn take_marker(receiver: &mut Receiver, line: usize, ring: &Ring, length: usize)
     }
     let ahead = round.wrapping_sub(receiver.turns.rounds[line]);
     if ahead >= 1 << 31 || ahead == 0 && counter > receiver.turns.counters[line] {
-        return Some(Step { word: 2 + 4 * line as u64, bytes: 0, raised: false });
+        return Some(Step { word: Outcome::Behind { line }.word(), bytes: 0, raised: false });
     }
     let missing = u64::from(ahead) * u64::from(quantum) + u64::from(receiver.turns.counters[line]) - u64::from(counter);
     receiver.turns.rounds[line] = round;
     receiver.turns.counters[line] = counter;
-    Some(Step { word: 1 + 4 * line as u64 + 64 * missing, bytes: 0, raised: ahead > 0 })
+    Some(Step { word: Outcome::Marker { line, missing }.word(), bytes: 0, raised: ahead > 0 })
 }
 
 /// One take from a line; else the word of the take that takes nothing.
 fn take(receiver: &mut Receiver, line: usize, store: &[u8], out: &mut [u8]) -> Result<Step, u64> {
     let (size, used) = (receiver.rings.size as usize, receiver.rings.used[line] as usize);
     if used == 0 {
-        return Err(3 + 4 * line as u64);
+        return Err(Outcome::Waiting { line }.word());
     }
     if used < 3 {
         return Err(refused(STORE));
@@ -156,5 +157,5 @@ pub fn takes(receiver: &mut Receiver, store: &[u8], out: &mut [u8], log: &mut [u
             line = next_line(receiver, line);
         }
     }
-    StageRun { why: 0, taken: log.len(), bytes }
+    StageRun { why: FULL, taken: log.len(), bytes }
 }

@@ -20,9 +20,10 @@
 //! receiver and the store. The store is kept from step to step. The first line is what both ends are before the first step, opened on no
 //! record; what is no step ends all with `bad input`.
 
-use crate::paper::{check_plan, copy_plan, read, record, Plan, Sender, REFUSED};
+use crate::answers::{self, done, FULL};
+use crate::paper::{check_plan, read, write_plan, Plan, Sender};
 use crate::stage::Receiver;
-use crate::taking::StageRun;
+use crate::taking::{Outcome, StageRun};
 
 pub const OPEN: u32 = 0;
 pub const REOPEN: u32 = 1;
@@ -125,13 +126,6 @@ pub fn packet(number: u32, length: usize) -> Vec<u8> {
     (0..length.min(MOST_DATA)).map(|at| (number as usize + 7 * at) as u8).collect()
 }
 
-/// A plan's record, in range or not: opening on the record comes to opening on the plan.
-fn plan_record(plan: &Plan) -> Vec<u8> {
-    let mut all = vec![plan.lines, plan.max, plan.interval];
-    all.extend(&plan.quanta[..plan.lines.min(16) as usize]);
-    record(&all.into_iter().map(u64::from).collect::<Vec<u64>>())
-}
-
 /// A row or a line that there is not has no figure.
 pub fn sender_figure(sender: &mut Sender, row: u32, line: usize) -> Option<&mut u32> {
     Some(match row {
@@ -168,7 +162,7 @@ pub fn receiver_figure(receiver: &mut Receiver, row: u32, line: usize) -> Option
 /// The calls, as the archives answer them.
 pub trait Calls {
     fn check_plan(&self, record: &[u8]) -> u32;
-    fn copy_plan(&self, record: &[u8], out: &mut [u8]) -> u32;
+    fn write_plan(&self, plan: &Plan, out: &mut [u8]) -> u32;
     fn open_sender(&self, sender: &mut Sender, record: &[u8]) -> u32;
     fn open_receiver(&self, receiver: &mut Receiver, record: &[u8], size: u32) -> u32;
     fn send(&self, sender: &mut Sender, length: usize) -> u32;
@@ -187,8 +181,8 @@ impl Calls for Second {
         check_plan(record)
     }
 
-    fn copy_plan(&self, record: &[u8], out: &mut [u8]) -> u32 {
-        let (answer, after) = copy_plan(record, out);
+    fn write_plan(&self, plan: &Plan, out: &mut [u8]) -> u32 {
+        let (answer, after) = write_plan(plan, out);
         out.copy_from_slice(&after);
         answer
     }
@@ -196,13 +190,13 @@ impl Calls for Second {
     fn open_sender(&self, sender: &mut Sender, record: &[u8]) -> u32 {
         let (number, opened) = Sender::open(record);
         *sender = opened;
-        number
+        done(number)
     }
 
     fn open_receiver(&self, receiver: &mut Receiver, record: &[u8], size: u32) -> u32 {
         let (number, opened) = Receiver::open(record, size);
         *receiver = opened;
-        number
+        done(number)
     }
 
     fn send(&self, sender: &mut Sender, length: usize) -> u32 {
@@ -216,11 +210,11 @@ impl Calls for Second {
     }
 
     fn data(&self, receiver: &mut Receiver, line: u32, bytes: &[u8], store: &mut [u8]) -> u32 {
-        receiver.data(line, bytes, store)
+        done(receiver.data(line, bytes, store))
     }
 
     fn marker(&self, receiver: &mut Receiver, line: u32, bytes: &[u8], store: &mut [u8]) -> u32 {
-        receiver.marker(line, bytes, store)
+        done(receiver.marker(line, bytes, store))
     }
 
     fn take(&self, receiver: &mut Receiver, store: &[u8], out: &mut [u8]) -> u64 {
@@ -253,32 +247,31 @@ fn refused(number: u32) -> String {
 }
 
 fn sent(answer: u32) -> String {
-    if answer < REFUSED { said("sent", u64::from(answer & 15), u64::from(answer >> 4)) } else { refused(answer - REFUSED) }
+    answers::went(answer).map_or_else(refused, |(line, due)| said("sent", line.into(), due.into()))
 }
 
 fn written(answer: u32) -> String {
-    if answer < REFUSED { said("written", answer.into(), 0) } else { refused(answer - REFUSED) }
+    answers::said(answer).map_or_else(refused, |length| said("written", length, 0))
 }
 
-fn arrived(number: u32) -> String {
-    said("arrived", number.into(), 0)
+fn arrived(answer: u32) -> String {
+    said("arrived", answers::number(answer).into(), 0)
 }
 
 /// What a take's word says.
 fn taken(word: u64) -> String {
-    let (line, value) = (word / 4 & 15, word / 64);
-    match (word & 3, value) {
-        (0, _) => said("packet", line, value),
-        (1, _) => said("missing", line, value),
-        (2, _) => said("behind", line, 0),
-        (_, 0) => said("waiting", line, 0),
-        _ => refused(value as u32),
+    match Outcome::of(word) {
+        Outcome::Data { line, length } => said("packet", line as u64, length as u64),
+        Outcome::Marker { line, missing } => said("missing", line as u64, missing),
+        Outcome::Behind { line } => said("behind", line as u64, 0),
+        Outcome::Waiting { line } => said("waiting", line as u64, 0),
+        Outcome::Refused(number) => refused(number),
     }
 }
 
 /// What a run's word says of how it ended.
 fn ended(why: u64) -> String {
-    if why == 0 { said("full", 0, 0) } else { taken(why) }
+    if why == FULL { said("full", 0, 0) } else { taken(why) }
 }
 
 /// Both ends, the store and how much of it is lent, and the output of the last step.
@@ -296,8 +289,8 @@ impl World {
     }
 
     fn open(&mut self, calls: &dyn Calls, record: &[u8], size: u32) -> String {
-        let booth = calls.open_sender(&mut self.sender, record);
-        said("opened", booth.into(), calls.open_receiver(&mut self.receiver, record, size).into())
+        let (booth, stage) = (calls.open_sender(&mut self.sender, record), calls.open_receiver(&mut self.receiver, record, size));
+        said("opened", answers::number(booth).into(), answers::number(stage).into())
     }
 
     fn run(&mut self, calls: &dyn Calls, room: usize, words: usize) -> String {
@@ -312,7 +305,7 @@ impl World {
         let room = |asked: u32| (asked as usize).min(OUTPUT);
         match step.kind {
             ASK => written(calls.ask(&self.sender, a, &mut self.out[..room(b)])),
-            WRITE => written(calls.copy_plan(&plan_record(&self.sender.plan), &mut self.out[..room(b)])),
+            WRITE => written(calls.write_plan(&self.sender.plan, &mut self.out[..room(b)])),
             TAKE => taken(calls.take(&mut self.receiver, &self.store[..self.lent], &mut self.out[..room(a)])),
             _ => self.run(calls, room(a), (b as usize).min(WORDS)),
         }
@@ -335,7 +328,8 @@ impl World {
         self.out.fill(UNUSED);
         match step.kind {
             OPEN => said("plan", calls.check_plan(&step.bytes).into(), 0) + &self.open(calls, &step.bytes, a),
-            REOPEN => self.open(calls, &plan_record(&self.sender.plan), a),
+            // opening on a plan's record, in range or not, comes to opening on the plan
+            REOPEN => self.open(calls, &self.sender.plan.record(), a),
             SEND => sent(calls.send(&mut self.sender, a as usize)),
             DATA => arrived(calls.data(&mut self.receiver, a, &packet(b, c as usize), &mut self.store[..lent])),
             MARKER => arrived(calls.marker(&mut self.receiver, a, &step.bytes, &mut self.store[..lent])),

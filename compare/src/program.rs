@@ -9,8 +9,17 @@ use std::process::{Command, Stdio};
 
 const PROGRAM: &str = concat!(env!("CARGO_MANIFEST_DIR"), "/../target/bin/stripes");
 
+/// The program by itself, or where STRIPES_RUN names an emulator for its processor, as qemu-x86_64, by that.
+fn command() -> Command {
+    let emulator = std::env::var("STRIPES_RUN").unwrap_or_default();
+    let mut words = emulator.split_whitespace().chain([PROGRAM]);
+    let mut command = Command::new(words.next().expect("the program at least"));
+    command.args(words);
+    command
+}
+
 fn printed(input: &[u8], pieces: &[usize]) -> Vec<u8> {
-    let mut child = Command::new(PROGRAM).stdin(Stdio::piped()).stdout(Stdio::piped()).spawn().expect("target/bin/stripes is built");
+    let mut child = command().stdin(Stdio::piped()).stdout(Stdio::piped()).spawn().expect("target/bin/stripes is built");
     let mut stdin = child.stdin.take().expect("piped");
     let mut stdout = child.stdout.take().expect("piped");
     let reader = std::thread::spawn(move || {

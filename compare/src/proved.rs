@@ -1,15 +1,17 @@
 //! The archives' functions, each call counted. The benchmark calls them uncounted.
 
 use crate::archive;
-use crate::paper::Sender;
+use crate::paper::{Plan, Sender};
 use crate::stage::Receiver;
 use crate::taking::StageRun;
 use std::sync::atomic::{AtomicU64, Ordering};
 
-const NAMES: [&str; 14] = [
+const NAMES: [&str; 16] = [
     "stripes_read_number",
     "stripes_write_number",
     "stripes_read_marker",
+    "stripes_write_plan",
+    "stripes_read_plan",
     "stripes_copy_plan",
     "stripes_write_marker",
     "stripes_check_plan",
@@ -48,6 +50,16 @@ pub fn write_number(value: u32, out: &mut [u8]) -> u32 {
 pub fn read_marker(bytes: &[u8]) -> u64 {
     count("stripes_read_marker");
     archive::read_marker(bytes)
+}
+
+pub fn write_plan(plan: &Plan, out: &mut [u8]) -> u32 {
+    count("stripes_write_plan");
+    archive::write_plan(plan, out)
+}
+
+pub fn read_plan(plan: &mut Plan, record: &[u8]) -> u32 {
+    count("stripes_read_plan");
+    archive::read_plan(plan, record)
 }
 
 pub fn copy_plan(record: &[u8], out: &mut [u8]) -> u32 {

@@ -3,7 +3,7 @@
 
 use crate::cases::{begin, differs};
 use crate::counts::Counts;
-use crate::paper::Sender;
+use crate::paper::{Plan, Sender};
 use crate::player::{printed, unseen, Calls, Second};
 use crate::proved;
 use crate::stage::Receiver;
@@ -20,8 +20,8 @@ impl Calls for Proved {
         proved::check_plan(record)
     }
 
-    fn copy_plan(&self, record: &[u8], out: &mut [u8]) -> u32 {
-        proved::copy_plan(record, out)
+    fn write_plan(&self, plan: &Plan, out: &mut [u8]) -> u32 {
+        proved::write_plan(plan, out)
     }
 
     fn open_sender(&self, sender: &mut Sender, record: &[u8]) -> u32 {

@@ -1,5 +1,6 @@
 //! Records by chance, whole and damaged, and the calls that judge and write them.
 
+use crate::answers;
 use crate::cases::{begin, differs};
 use crate::chance::Chance;
 use crate::counts::{number_name, Counts};
@@ -70,9 +71,9 @@ pub fn compare_opening(record: &[u8]) -> Sender {
     const WORD: u32 = 0xEEEE_EEEE;
     let plan = paper::Plan { lines: WORD, max: WORD, interval: WORD, quanta: [WORD; 16] };
     let mut sender = Sender { plan, line: WORD, countdown: WORD, rounds: [WORD; 16], counters: [WORD; 16] };
-    let (proved, second) = (proved::open(&mut sender, record), Sender::open(record));
-    if (proved, sender) != second {
-        differs("opening a sender", format!("{record:02x?}: {proved} {sender:?} and {second:?}"));
+    let (proved, (number, second)) = (proved::open(&mut sender, record), Sender::open(record));
+    if (proved, sender) != (answers::done(number), second) {
+        differs("opening a sender", format!("{record:02x?}: {proved} {sender:?} and {number} {second:?}"));
     }
     sender
 }
@@ -108,6 +109,5 @@ pub fn markers(seed: u64, counts: &mut Counts) {
     let round = (chance.next() >> chance.between(32, 63)) as u32;
     let length = chance.between(0, 14) as usize;
     let answer = compare_marker(line, round, counter, &chance.bytes(length));
-    let name = LENGTHS.get(answer as usize).copied().unwrap_or_else(|| number_name(answer - paper::REFUSED));
-    counts.count("markers written", name);
+    counts.count("markers written", answers::said(answer).map_or_else(number_name, |length| LENGTHS[length as usize]));
 }

@@ -1,10 +1,11 @@
 //! Holds the proved sender against both forms of the second program's: sessions from opening, and states that no session leaves.
 
+use crate::answers::{said, went};
 use crate::cases::{begin, differs};
 use crate::chance::Chance;
 use crate::counts::{number_name, Counts};
 use crate::pair::longer;
-use crate::paper::{record, Definition, Plan, Sender, REFUSED};
+use crate::paper::{record, Definition, Plan, Sender};
 use crate::proved;
 use crate::records::compare_opening;
 
@@ -17,7 +18,7 @@ pub fn highest() -> Vec<u64> {
 }
 
 /// A plan in range, of lines, sizes and quanta by chance, each now and then at an end of its range.
-fn good_plan(chance: &mut Chance) -> Vec<u8> {
+pub fn good_plan(chance: &mut Chance) -> Vec<u8> {
     match chance.between(0, 199) {
         0 => return record(&LOWEST),
         1 => return record(&highest()),
@@ -86,34 +87,36 @@ impl Booth {
         Booth { definition: Definition::open_at(sender.plan, round), sender }
     }
 
-    /// A send by all forms. Answers as the archive does.
-    pub fn send(&mut self, length: usize, group: &'static str, counts: &mut Counts) -> u32 {
+    /// A send by all forms: the packet's line and whether markers are due, or the number.
+    pub fn send(&mut self, length: usize, group: &'static str, counts: &mut Counts) -> Result<(u32, bool), u32> {
         let answer = compare_send(&mut self.sender, length);
         let expected = self.definition.send(length);
         if answer != expected || !self.definition.shows(&self.sender) {
             differs("send by the definition", format!("{:?} {length}: {answer} and {expected}", self.sender));
         }
-        counts.count(group, match answer {
-            0..16 => "sent",
-            16..REFUSED => "sent, due",
-            _ if answer == REFUSED + 4 => "send 4",
-            _ => number_name(answer - REFUSED),
+        let went = went(answer);
+        counts.count(group, match went {
+            Ok((_, false)) => "sent",
+            Ok((_, true)) => "sent, due",
+            Err(4) => "send 4",
+            Err(number) => number_name(number),
         });
-        answer
+        went
     }
 
     /// A marker asked for, by all forms; the record where there is one.
     pub fn marker(&self, line: u32, before: &[u8], group: &'static str, counts: &mut Counts) -> Option<Vec<u8>> {
         let (answer, out) = compare_marker_from(&self.sender, line, before);
-        let written = (answer < REFUSED).then(|| out[..answer as usize].to_vec());
+        let length = said(answer);
+        let written = length.ok().map(|length| out[..length as usize].to_vec());
         if written.as_ref().is_some_and(|record| *record != self.definition.marker(line as usize)) {
             differs("marker by the definition", format!("{:?} {line}: {out:02x?}", self.sender));
         }
-        counts.count(group, match answer {
-            0..REFUSED => "marker",
-            _ if answer == REFUSED + 3 => "marker 3",
-            _ if answer == REFUSED + 8 => "marker 8",
-            _ => number_name(answer - REFUSED),
+        counts.count(group, match length {
+            Ok(_) => "marker",
+            Err(3) => "marker 3",
+            Err(8) => "marker 8",
+            Err(number) => number_name(number),
         });
         written
     }
@@ -136,7 +139,7 @@ pub fn sessions(seed: u64, counts: &mut Counts) {
     let max = u64::from(booth.sender.plan.max);
     for _ in 0..chance.between(1, 900) {
         let length = if chance.one_in(16) { chance.near(1, max) } else { chance.between(1, max) };
-        booth.send(length as usize, SESSIONS, counts);
+        _ = booth.send(length as usize, SESSIONS, counts);
         if chance.one_in(8) {
             let room = chance.between(0, 12) as usize;
             booth.marker(chance.between(0, 17) as u32, &chance.bytes(room), SESSIONS, counts);
@@ -153,8 +156,8 @@ pub fn intervals(seed: u64, counts: &mut Counts) {
     all.resize(3 + lines as usize, 64);
     let mut booth = open(&record(&all), 1, counts);
     for _ in 0..lines * 65535 + chance.between(1, 9) {
-        let answer = booth.send(64, SESSIONS, counts);
-        counts.add(SESSIONS, "sent, due at K 65535", u64::from(answer & 16 != 0));
+        let went = booth.send(64, SESSIONS, counts);
+        counts.add(SESSIONS, "sent, due at K 65535", u64::from(went.is_ok_and(|(_, due)| due)));
     }
 }
 
@@ -198,10 +201,9 @@ pub fn states(seed: u64, counts: &mut Counts) {
     }
     compare_marker_from(&sender, chance.between(0, 16) as u32, &[0xEE; 9]);
     let length = chance.near(1, u64::from(sender.plan.max.clamp(1, 9000))) as usize;
-    let answer = compare_send(&mut sender, length);
-    if more == 0 && answer == REFUSED + 2 {
-        counts.count("senders with one field changed, sends refused with 2", field);
-    } else if more == 0 && answer < REFUSED {
-        counts.count("senders with one field changed, sent", field);
+    match went(compare_send(&mut sender, length)) {
+        Err(2) if more == 0 => counts.count("senders with one field changed, sends refused with 2", field),
+        Ok(_) if more == 0 => counts.count("senders with one field changed, sent", field),
+        _ => {}
     }
 }

@@ -1,6 +1,7 @@
 //! A session of both ends in its parts (play.rs plays it): a sender, lines that are queues and may lose, and a pair of receivers. Beside them
 //! stand both ends by positions, which say what every call must answer, and what each line has lost, which says what every marker must report.
 
+use crate::answers::FULL;
 use crate::cases::differs;
 use crate::chance::Chance;
 use crate::counts::Counts;
@@ -138,10 +139,10 @@ impl Session {
         let most = if chance.one_in(4) { 64 } else { self.max() };
         let length = if chance.one_in(16) { self.max() } else { chance.between(1, most) };
         let packet = chance.bytes(length as usize);
-        let answer = self.booth.send(packet.len(), BOOTH, counts);
-        self.lines[(answer & 15) as usize].under_way.push_back(Item::Packet(self.packets.len()));
+        let (line, due) = self.booth.send(packet.len(), BOOTH, counts).expect("a length in range");
+        self.lines[line as usize].under_way.push_back(Item::Packet(self.packets.len()));
         self.packets.push(packet);
-        if answer & 16 != 0 {
+        if due {
             self.mark_all(false, counts);
         }
     }
@@ -149,8 +150,8 @@ impl Session {
     /// A send, or a marker asked for, that must be refused.
     pub fn refused_call(&mut self, line: usize, chance: &mut Chance, counts: &mut Counts) {
         let asked = match chance.between(0, 3) {
-            0 => self.booth.send(0, BOOTH, counts) < 256,
-            1 => self.booth.send(self.max() as usize + 1, BOOTH, counts) < 256,
+            0 => self.booth.send(0, BOOTH, counts).is_ok(),
+            1 => self.booth.send(self.max() as usize + 1, BOOTH, counts).is_ok(),
             2 => self.booth.marker(chance.between(self.lines.len() as u64, 20) as u32, &[9; 12], BOOTH, counts).is_some(),
             _ => self.booth.marker(line as u32, &[9; 2], BOOTH, counts).is_some(),
         };
@@ -242,20 +243,19 @@ impl Session {
     }
 
     /// What a take comes to is held against what its line holds and has lost.
-    fn taken(&mut self, word: u64, bytes: &[u8]) {
-        let (kind, line, value) = (word & 3, (word / 4 & 15) as usize, word / 64);
-        let item = self.lines.get_mut(line).and_then(|line| line.held.pop_front());
-        match item {
-            Some(Item::Packet(packet)) if kind == 0 && bytes == self.packets[packet] => self.handed.push(packet),
-            Some(Item::Marker(mark)) if mark.again && (kind == 2 || kind == 1 && value == 0) => {}
-            Some(Item::Marker(mark)) if !mark.again && kind == 1 && mark.missing == value => {
+    fn taken(&mut self, outcome: Outcome, bytes: &[u8]) {
+        let line = outcome.line().expect("something was taken");
+        match (self.lines[line].held.pop_front(), outcome) {
+            (Some(Item::Packet(packet)), Outcome::Data { .. }) if bytes == self.packets[packet] => self.handed.push(packet),
+            (Some(Item::Marker(mark)), Outcome::Behind { .. } | Outcome::Marker { missing: 0, .. }) if mark.again => {}
+            (Some(Item::Marker(mark)), Outcome::Marker { missing, .. }) if !mark.again && mark.missing == missing => {
                 self.lines[line].mended |= mark.mends;
                 self.lines[line].yielded = Some(mark);
                 if self.in_order_from.is_none() && self.lines.iter().all(|line| line.mended) {
                     self.in_order_from = Some(self.handed.len());
                 }
             }
-            _ => differs("a take, by what its line holds and has lost", format!("{:?}: kind {kind}, line {line}, value {value}", self.pair.receiver)),
+            _ => differs("a take, by what its line holds and has lost", format!("{:?}: {outcome:?}", self.pair.receiver)),
         }
     }
 
@@ -266,7 +266,7 @@ impl Session {
         self.hold("a take", (word, &out[..bytes.len().min(room)]), (outcome.word(), &bytes[..]));
         counts.word("in them, takes", word);
         if outcome.is_taken() {
-            self.taken(word, &bytes);
+            self.taken(outcome, &bytes);
         }
         outcome.is_taken()
     }
@@ -274,7 +274,7 @@ impl Session {
     pub fn run(&mut self, room: usize, chance: &mut Chance, counts: &mut Counts) {
         let most = chance.between(0, 12);
         let (run, out, log) = self.pair.takes(&chance.bytes(room), &chance.words(most));
-        let (mut why, mut written, mut taken) = (0, 0, Vec::new());
+        let (mut why, mut written, mut taken) = (FULL, 0, Vec::new());
         while taken.len() < log.len() {
             let (outcome, bytes) = self.far.take(room - written);
             if !outcome.is_taken() {
@@ -291,7 +291,7 @@ impl Session {
         counts.run("in them, runs ended", run.why);
         for (outcome, bytes) in &taken {
             counts.word("in them, takes of runs", outcome.word());
-            self.taken(outcome.word(), bytes);
+            self.taken(*outcome, bytes);
         }
     }
 }

@@ -1,5 +1,6 @@
 //! The second program's takes, from the specification's words alone: one item of the current line, and runs of such takes.
 
+use crate::answers::FULL;
 use crate::paper::{OUTPUT, STORE};
 use crate::stage::{Item, Receiver};
 
@@ -14,26 +15,22 @@ pub enum Outcome {
 }
 
 impl Outcome {
-    /// The word that the archive answers: the kind, 4 times the line, 64 times the value.
-    pub fn word(self) -> u64 {
-        let (kind, line, value) = match self {
-            Outcome::Data { line, length } => (0, line, length as u64),
-            Outcome::Marker { line, missing } => (1, line, missing),
-            Outcome::Behind { line } => (2, line, 0),
-            Outcome::Waiting { line } => (3, line, 0),
-            Outcome::Refused(number) => (3, 0, u64::from(number)),
-        };
-        kind + 4 * line as u64 + 64 * value
-    }
-
     /// Whether an item was taken.
     pub fn is_taken(self) -> bool {
         !matches!(self, Outcome::Waiting { .. } | Outcome::Refused(_))
     }
+
+    /// The line that it was of.
+    pub fn line(self) -> Option<usize> {
+        match self {
+            Outcome::Data { line, .. } | Outcome::Marker { line, .. } | Outcome::Behind { line } | Outcome::Waiting { line } => Some(line),
+            Outcome::Refused(_) => None,
+        }
+    }
 }
 
-/// What a run of takes comes to, as the archive answers it: 0 where the log is full, or else the word of the outcome that stopped it; how many takes
-/// there were, and how many bytes they wrote.
+/// What a run of takes comes to, as the archive answers it: `FULL` where the log is full, or else the word of the outcome that stopped it; how many
+/// takes there were, and how many bytes they wrote.
 #[repr(C)]
 #[derive(Clone, Copy, Debug, PartialEq, Eq)]
 pub struct StageRun {
@@ -118,6 +115,6 @@ impl Receiver {
             }
             log[taken] = outcome.word();
         }
-        StageRun { why: 0, taken: log.len(), bytes }
+        StageRun { why: FULL, taken: log.len(), bytes }
     }
 }

@@ -1,6 +1,7 @@
 //! The session as text, once more from the specification: what `stripes` must print for any bytes on its input.
 
-use crate::paper::{written, Sender, REFUSED};
+use crate::answers::went;
+use crate::paper::{written, Sender};
 
 const HEADER: &str = "no len ch round before due\n";
 
@@ -38,12 +39,10 @@ pub fn table(text: &[u8]) -> String {
             _ => return printed + &format!("refused 1 {}\n", at + 2),
         };
         let before = sender;
-        let answer = sender.send(length as usize);
-        if answer >= REFUSED {
-            return printed + &format!("refused {} {}\n", answer - REFUSED, at + 2);
-        }
-        let line = (answer & 15) as usize;
-        let due = if answer & 16 == 0 { '-' } else { 'M' };
+        let (line, due) = match went(sender.send(length as usize)) {
+            Ok((line, due)) => (line as usize, if due { 'M' } else { '-' }),
+            Err(number) => return printed + &format!("refused {number} {}\n", at + 2),
+        };
         printed += &format!("{} {length} {line} {} {} {due}\n", at + 1, before.rounds[line], before.counters[line]);
     }
     printed

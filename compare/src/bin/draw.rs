@@ -1,5 +1,8 @@
 //! Draws the pictures of README and docs from the second program's figures and from crates.txt: `draw DIR` writes them into DIR. Links no archive.
 
+#[path = "../answers.rs"]
+#[allow(dead_code)]
+mod answers;
 #[path = "../drawing/mod.rs"]
 mod drawing;
 #[path = "../paper.rs"]

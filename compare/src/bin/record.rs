@@ -1,6 +1,9 @@
 //! Makes the recording of the second program, which links no archive: `record DIR` writes what a program reads that plays it (DIR/stdin, player.rs
 //! says how it is laid out) and what it must print (DIR/stdout).
 
+#[path = "../answers.rs"]
+#[allow(dead_code)]
+mod answers;
 #[path = "../chance.rs"]
 #[allow(dead_code)]
 mod chance;

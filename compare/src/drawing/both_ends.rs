@@ -1,5 +1,6 @@
 //! The session on paper at both ends, by the second program: what the booth sends, and what the stage takes of what arrives.
 
+use crate::answers::went;
 use crate::paper::{record, Definition, Plan, Sender};
 use crate::stage::Receiver;
 use crate::taking::Outcome;
@@ -54,9 +55,10 @@ impl Booth {
             let (line, length) = (sender.line as usize, numbers(text)[0] as usize);
             let at = definition.position(line) as u64;
             let answer = sender.send(length);
-            assert!(answer == definition.send(length) && definition.shows(&sender) && answer as usize % 16 == line, "packet {number}");
+            let (went_to, due) = went(answer).expect("a length in range");
+            assert!(answer == definition.send(length) && definition.shows(&sender) && went_to as usize == line, "packet {number}");
             sent.push(Sent { number, line, at, bytes: vec![number; length] });
-            if answer >= 16 {
+            if due {
                 sent.extend(markers(&sender, &definition));
             }
         }

@@ -183,8 +183,8 @@ pub record Outcomes : Type 0 where
   -- what is stored
   pub data-stored : (r : Receiver) (i : ℕ) (b store : List ℕ) → ReceiverArrays r → dataArrival r i b store .arrived .number ≡ 0 → Stores r i 0 b store (dataArrival r i b store)
   pub marker-stored : (r : Receiver) (i : ℕ) (b store : List ℕ) → ReceiverArrays r → markerArrival r i b store .arrived .number ≡ 0 → Stores r i 1 b store (markerArrival r i b store)
-  -- a take's word in a run's log: what it was (0 data, 1 missing, 2 behind), 4 times its line, and 64 times the length or the bytes missing
+  -- a take's word in a run's log: its line, 16 times what it was (0 data, 1 missing, 2 behind), and 512 times the length or the bytes missing
   pub words : (line n : ℕ)
-      → (wordOf (taken.Data line n) ≡ 4 * line + 64 * n) × (wordOf (taken.Missing line n) ≡ 1 + 4 * line + 64 * n) × (wordOf (taken.Behind line) ≡ 2 + 4 * line)
+      → (wordOf (taken.Data line n) ≡ line + 512 * n) × (wordOf (taken.Missing line n) ≡ 16 + line + 512 * n) × (wordOf (taken.Behind line) ≡ 32 + line)
   pub cannot-be : (r : Receiver) (store : List ℕ) (i : ℕ) → CannotBe r store i
   pub takes : Takes

@@ -224,6 +224,14 @@ record-small s =
     end true m = tt
     end false m = omega arith
 
+-- bytes that are not three numbers are refused by 5
+pub record-number : (s : List ℕ) → numberOf (recordRead s) ≤ 5
+record-number s = go (recordRead s) (record-small s)
+  where
+    go : (r : MarkerRead) → SmallNumber r → numberOf r ≤ 5
+    go (Whole m) h = omega arith
+    go (Refused k) h = h
+
 checked-small : (m : Marker) → SmallNumber (judge (readNumber m) m)
 unfolding judge
 checked-small m = go (counterOk m) (lineOk m)

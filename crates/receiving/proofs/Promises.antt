@@ -123,7 +123,7 @@ pub example : takesOf (fed .receiver) (fed .store) (replicate 4 0) (replicate 3 
     ≡ record {
       result = record { ended = Waiting 1; taken = 2; bytes = 3; next = takesOf (fed .receiver) (fed .store) (replicate 4 0) (replicate 3 0) .result .next };
       out = 7 ∷ 8 ∷ 9 ∷ 0 ∷ [];
-      log = 192 ∷ 3905 ∷ 0 ∷ [];
+      log = 1536 ∷ 31248 ∷ 0 ∷ [];
     }
 unfolding openReceiver planOk storeOk countersOk allBelow arrivalOf arrival receiverOk ringsOk turnsOk lineAt firstFrom ahead ringOf withRing stored intoRing held fromRing frontOf markerOn judge recordRead readingOf reportOf chargeOf takeOf headOn itemOn roundNow best better takesOf takesFrom
 example = refl

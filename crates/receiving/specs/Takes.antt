@@ -24,12 +24,12 @@ endedValues ended.Full = []
 endedValues (ended.Waiting line) = line ∷ []
 endedValues (ended.Refused k) = []
 
--- a take's word: what it was (0 data, 1 missing, 2 behind), 4 times its line, and 64 times the length or the bytes missing
+-- a take's word: its line, 16 times what it was (0 data, 1 missing, 2 behind), and 512 times the length or the bytes missing
 abbrev pub wordOf : Taken → ℕ
 wordOf (Waiting line) = 0
-wordOf (Data line n) = 4 * line + 64 * n
-wordOf (Missing line missing) = 1 + 4 * line + 64 * missing
-wordOf (Behind line) = 2 + 4 * line
+wordOf (Data line n) = line + 512 * n
+wordOf (Missing line missing) = 16 + line + 512 * missing
+wordOf (Behind line) = 32 + line
 wordOf (Refused k) = 0
 
 -- the bytes that a take has written

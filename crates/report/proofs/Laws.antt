@@ -2,18 +2,18 @@
 use mathlib.Core.Path.{_≡_, refl, ap, sym, _∙_}
 use Prim.Native.Nat.{ℕ, _+_, _%_, _^_, _≤_, _<_}
 use native.Mathlib.Omega.{arith}
-use mathlib.Core.Bool.{Bool, true, false}
+use mathlib.Core.Bool.{Bool, true, false, cond}
 use mathlib.Core.List.{List}
 use lib.Dec.{ltb, eqb}
 use borrow.Author.Tests.{ltb-true, ltb-false, lt-ltb, le-ltb, le-leb, lt-leb, eq-eqb, ne-eqb, eqb-true}
-use Rattle.numbers.specs.Checks.{inRange}
+use Rattle.numbers.specs.Checks.{check, inRange}
 use Rattle.numbers.specs.Wrap.{wrap, half}
 use Rattle.numbers.proofs.Checks.{in-range as is-in-range, check-passed, from-range}
 use Rattle.marker.specs.declared.Marker.{Marker}
 use Rattle.marker.specs.declared.MarkerRead.{MarkerRead}
 use Rattle.marker.specs.declared.MarkerRead.the-variants.{Whole, Refused}
 use Rattle.marker.specs.Marker.{numberOf, recordRead, judge, judged}
-use Rattle.marker.proofs.Laws.{whole-not-refused, record-accepted, judge-passed, judge-refused}
+use Rattle.marker.proofs.Laws.{whole-not-refused, record-accepted, record-number, judge-passed, judge-refused}
 use Rattle.report.specs.declared.Report.the-variants.{Missing, Behind}
 use Rattle.report.specs.Report.{onNumber, markerOn, ahead, missing, reportOf}
 
@@ -71,6 +71,20 @@ some-number i q b k e z = go (recordRead b) refl e
     go (Refused j) h e =
         let s : j ≡ k = cc in
         whole-not-refused (sym h ∙ record-accepted b (ap numberOf h ∙ s ∙ z) .1)
+
+-- by 5 or 6
+pub on-number : (i q : ℕ) (b : List ℕ) → numberOf (markerOn i q b) ≤ 6
+unfolding markerOn judge
+on-number i q b = go (recordRead b) (record-number b)
+  where
+    checked : (m : Marker) (s t : Bool) → numberOf (cond (eqb (check s 5 (check t 6 0)) 0) (Whole m) (Refused (check s 5 (check t 6 0)))) ≤ 6
+    checked m true true = omega arith
+    checked m true false = omega arith
+    checked m false t = omega arith
+
+    go : (r : MarkerRead) → numberOf r ≤ 5 → numberOf (judged (onNumber i q) r) ≤ 6
+    go (Whole m) h = checked m (inRange 1 (m .counter) q) (eqb (m .line) i)
+    go (Refused k) h = omega arith
 
 -- ---- rounds ahead
 

@@ -15,12 +15,12 @@ use denote.Triple.Clauses.{AtExit}
 use denote.Triple.Entry.{Args}
 use Rattle.numbers.proofs.Tight.{only}
 use Rattle.receiving.specs.declared.Receiver.{Receiver}
-use Rattle.receiving.specs.Arriving.{Arrival, dataArrival, markerArrival}
+use Rattle.receiving.specs.Arriving.{Arrival}
 use Rattle.receiving.specs.Taking.{takeOf}
 use Rattle.receiving.specs.Takes.{takesOf}
 use Rattle.taking.specs.Words.{takenWord}
 use Rattle.stage.specs.declared.StageRun.{StageRun}
-use Rattle.stage.specs.Exports.{openFrom, stageRun}
+use Rattle.stage.specs.Exports.{openFrom, dataTold, markerTold, stageRun}
 use Rattle.stage.proofs.stage_open as thin-open
 use Rattle.stage.proofs.stage_data as thin-data
 use Rattle.stage.proofs.stage_marker as thin-marker
@@ -52,14 +52,14 @@ pub data-clause :
     {M : Type 1} (𝓤 : URA M) (H : Heap 𝓤) (A : Atoms 𝓤) (mem : Memory → SProp 𝓤) (run : Routine → Fun 𝓤) (κs : Lfts 3)
     (a : Args thin-data.signature κs) (n : ℕ) (e : AtExit thin-data.ended κs)
     → thin-data.clauses 𝓤 H A mem run κs a .ensures tt n e
-    ≡ fact 𝓤 (ArrivalSays dataArrival (a .0 .now) (a .1 .0) (a .1 .1 .0 .now) (a .1 .1 .1 .0 .now) n (e .0 .now) (e .1 .1 .1 .0 .now))
+    ≡ fact 𝓤 (ArrivalSays dataTold (a .0 .now) (a .1 .0) (a .1 .1 .0 .now) (a .1 .1 .1 .0 .now) n (e .0 .now) (e .1 .1 .1 .0 .now))
 data-clause 𝓤 H A mem run κs a n e = refl
 
 pub marker-clause :
     {M : Type 1} (𝓤 : URA M) (H : Heap 𝓤) (A : Atoms 𝓤) (mem : Memory → SProp 𝓤) (run : Routine → Fun 𝓤) (κs : Lfts 3)
     (a : Args thin-marker.signature κs) (n : ℕ) (e : AtExit thin-marker.ended κs)
     → thin-marker.clauses 𝓤 H A mem run κs a .ensures tt n e
-    ≡ fact 𝓤 (ArrivalSays markerArrival (a .0 .now) (a .1 .0) (a .1 .1 .0 .now) (a .1 .1 .1 .0 .now) n (e .0 .now) (e .1 .1 .1 .0 .now))
+    ≡ fact 𝓤 (ArrivalSays markerTold (a .0 .now) (a .1 .0) (a .1 .1 .0 .now) (a .1 .1 .1 .0 .now) n (e .0 .now) (e .1 .1 .1 .0 .now))
 marker-clause 𝓤 H A mem run κs a n e = refl
 
 pub arrival-tight : (answered : Receiver → ℕ → List ℕ → List ℕ → Arrival) (r : Receiver) (line : ℕ) (bytes store : List ℕ) (n n′ : ℕ) (next next′ : Receiver)

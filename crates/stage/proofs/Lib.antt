@@ -1,3 +1,4 @@
+mod Small
 mod Arrivals
 mod Words
 mod Determined

@@ -1,10 +1,14 @@
--- A call of C at the stage that is refused leaves everything that it was lent as it was, and a refused opening leaves zeros. Assumes nothing.
-use mathlib.Core.Path.{_≡_, refl}
-use Prim.Native.Nat.{ℕ, _*_}
+-- A call at the stage that answers what C reads as a refusal leaves everything that it was lent as it was, and a refused opening leaves zeros.
+-- Assumes nothing.
+use mathlib.Core.Path.{_≡_, refl, ap, sym, _∙_}
+use Prim.Native.Nat.{ℕ, _+_, _*_}
 use native.Mathlib.Omega.{arith}
 use mathlib.Core.Bool.{Bool, true, false, cond, _&&_}
 use mathlib.Core.List.{List}
 use lib.ListN.{length}
+use Rattle.numbers.proofs.Checks.{never}
+use Rattle.answers.specs.Answers.{told, refusedIn}
+use Rattle.answers.proofs.Laws.{bit-8-clear, below-256, told-none}
 use Rattle.plan.specs.Plan.{planOk, storeOk}
 use Rattle.plan_record.specs.Record.{planRead}
 use Rattle.receiving.specs.declared.Receiver.{Receiver}
@@ -12,33 +16,52 @@ use Rattle.receiving.specs.declared.ReceiverOpened.{ReceiverOpened}
 use Rattle.receiving.specs.declared.Taken.{Taken}
 use Rattle.receiving.specs.declared.Taken.the-variants.{Waiting, Data, Missing, Behind, Refused}
 use Rattle.receiving.specs.Receiver.{closedReceiver, openedReceiver, openReceiver, receiverOk}
-use Rattle.receiving.specs.Arriving.{dataArrival, markerArrival}
 use Rattle.receiving.specs.Taking.{takeOf}
 use Rattle.receiving.specs.Takes.{goesOn, Run, takesOf}
 use Rattle.receiving.proofs.Promises.{demand-1}
 use Rattle.receiving.proofs.Runs.{bad-state, bad-store}
 use Rattle.taking.specs.Words.{takenWord}
-use Rattle.stage.specs.Exports.{openFrom, kindIn}
+use Rattle.taking.proofs.Words.{Told, take-told}
+use Rattle.stage.specs.Exports.{openFrom, dataTold, markerTold, kindIn}
 
-pub data-refused : (r : Receiver) (i : ℕ) (b store : List ℕ) → (dataArrival r i b store .arrived .number ≡ 0 → ⊥)
-    → (dataArrival r i b store .arrived .next ≡ r) × (dataArrival r i b store .store ≡ store)
-data-refused = demand-1 .data-refused
+-- what is told and read as a refusal has a number
+some-number : (number : ℕ) → refusedIn (told number) ≡ true → number ≡ 0 → ⊥
+some-number number h e = never (sym h ∙ ap refusedIn (told-none number e) ∙ below-256 0 (omega arith))
 
-pub marker-refused : (r : Receiver) (i : ℕ) (b store : List ℕ) → (markerArrival r i b store .arrived .number ≡ 0 → ⊥)
-    → (markerArrival r i b store .arrived .next ≡ r) × (markerArrival r i b store .store ≡ store)
-marker-refused = demand-1 .marker-refused
+module _ (r : Receiver) (i : ℕ) (b store : List ℕ) where
+  pub data-refused : let a = dataTold r i b store in refusedIn (a .arrived .number) ≡ true → (a .arrived .next ≡ r) × (a .store ≡ store)
+  data-refused h = demand-1 .data-refused r i b store (some-number _ h)
 
--- a take's word of the kind 3 is a wait or a refusal
-stopped-kind : (t : Taken) → kindIn (takenWord t) ≡ 3 → goesOn t ≡ false
-stopped-kind (Waiting i) e = refl
-stopped-kind (Data i n) e = absurd (omega arith)
-stopped-kind (Missing i m) e = absurd (omega arith)
-stopped-kind (Behind i) e = absurd (omega arith)
-stopped-kind (Refused k) e = refl
+  pub marker-refused : let a = markerTold r i b store in refusedIn (a .arrived .number) ≡ true → (a .arrived .next ≡ r) × (a .store ≡ store)
+  marker-refused h = demand-1 .marker-refused r i b store (some-number _ h)
 
-pub take-refused : (r : Receiver) (store out : List ℕ) → kindIn (takenWord (takeOf r store out .result .answer)) ≡ 3
-    → (takeOf r store out .result .next ≡ r) × (takeOf r store out .out ≡ out)
-take-refused r store out e = demand-1 .take-refused r store out (stopped-kind (takeOf r store out .result .answer) e)
+-- a take: refused, or waiting, which is the kind 3
+module _ (r : Receiver) (store out : List ℕ) where
+  abbrev answer : Taken
+  answer = takeOf r store out .result .answer
+
+  abbrev Stays : Type 0
+  Stays = (takeOf r store out .result .next ≡ r) × (takeOf r store out .out ≡ out)
+
+  pub take-refused : refusedIn (takenWord answer) ≡ true → Stays
+  take-refused h = demand-1 .take-refused r store out (stops answer (take-told r store out) h)
+    where
+      stops : (t : Taken) → Told t → refusedIn (takenWord t) ≡ true → goesOn t ≡ false
+      stops (Waiting i) told e = refl
+      stops (Data i n) told e = absurd (never (sym e ∙ bit-8-clear _ i n refl (omega arith)))
+      stops (Missing i m) told e = absurd (never (sym e ∙ bit-8-clear _ (16 + i) m refl (omega arith)))
+      stops (Behind i) told e = absurd (never (sym e ∙ below-256 (32 + i) (omega arith)))
+      stops (Refused k) told e = refl
+
+  pub take-waits : kindIn (takenWord answer) ≡ 3 → Stays
+  take-waits h = demand-1 .take-refused r store out (stops answer (take-told r store out) h)
+    where
+      stops : (t : Taken) → Told t → kindIn (takenWord t) ≡ 3 → goesOn t ≡ false
+      stops (Waiting i) told e = refl
+      stops (Data i n) told e = absurd (omega arith)
+      stops (Missing i m) told e = absurd (omega arith)
+      stops (Behind i) told e = absurd (omega arith)
+      stops (Refused k) told e = refl
 
 -- a run that is refused for its state or its store
 module _ (r : Receiver) (store out log : List ℕ) where
@@ -51,9 +74,9 @@ module _ (r : Receiver) (store out log : List ℕ) where
   pub run-refused-9 : receiverOk r ≡ true → (length store ≡ r .plan .lines * r .rings .size → ⊥) → Kept (takesOf r store out log)
   run-refused-9 good bad = rw (← bad-store r store out log good bad) (refl, refl, refl, refl, refl)
 
-pub open-refused : (b : List ℕ) (size : ℕ) → (openFrom b size .number ≡ 0 → ⊥) → openFrom b size .receiver ≡ closedReceiver
+pub open-refused : (b : List ℕ) (size : ℕ) → refusedIn (openFrom b size .number) ≡ true → openFrom b size .receiver ≡ closedReceiver
 unfolding openReceiver
-open-refused b size = go (planOk (planRead b .plan) && storeOk (planRead b .plan) size)
+open-refused b size h = go (planOk (planRead b .plan) && storeOk (planRead b .plan) size) (some-number _ h)
   where
     opened : Bool → ReceiverOpened
     opened t = cond t (record { number = 0; receiver = openedReceiver (planRead b .plan) size }) (record { number = 1; receiver = closedReceiver })

@@ -1,13 +1,14 @@
 // What the stage's driver, written in C, calls: the receiver that it holds. Each export copies the state out, calls one proved function, stores
-// the next state back and answers one number, a run of takes three; include/stage.h is the other side. The definitions are in specs/Exports.antt.
+// the next state back and answers one number by the rule of the crate `answers`, a run of takes three; include/stage.h is the other side. The
+// definitions are in specs/Exports.antt.
+use receiving::Arrived;
 use receiving::Receiver;
 use receiving::ReceiverOpened;
 ghost use mathlib.Core.Path.{_≡_};
-ghost use Rattle.receiving.specs.Arriving.{dataArrival, markerArrival};
 ghost use Rattle.receiving.specs.Taking.{takeOf};
 ghost use Rattle.receiving.specs.Takes.{takesOf};
 ghost use Rattle.taking.specs.Words.{takenWord};
-ghost use Rattle.stage.specs.Exports.{openFrom, codedTake, stageRun, codedRun};
+ghost use Rattle.stage.specs.Exports.{openFrom, dataTold, markerTold, codedTake, stageRun, codedRun};
 
 // A receiver opened on the plan of a record. A record that is refused reads as an all-zero plan, on which no receiver opens.
 fn open_from(bytes: &[u8], size: u32) -> ReceiverOpened
@@ -15,10 +16,14 @@ fn open_from(bytes: &[u8], size: u32) -> ReceiverOpened
 {
     let read = plan_record::read_plan(bytes);
     let p = read.plan;
-    receiver::open(p, size)
+    let opened = receiver::open(p, size);
+    let receiver = opened.receiver;
+    let number = answers::told(opened.number);
+    ReceiverOpened { number, receiver }
 }
 
-// Opens the receiver that C holds, on the plan of a record, with `size` bytes of store for each line: 0, or 1 and the closed state.
+// Opens the receiver that C holds, on the plan of a record, with `size` bytes of store for each line: 0, or 256 plus 1 and the closed
+// state.
 #[no_mangle]
 pub extern "C" fn stage_open(r: &mut Receiver, bytes: &[u8], size: u32) -> u32
     ensures { λ n. ⌜ (n ≡ openFrom (now (bytes .entry)) size .number) × (now (r .exit) ≡ openFrom (now (bytes .entry)) size .receiver) ⌝ }
@@ -28,26 +33,46 @@ pub extern "C" fn stage_open(r: &mut Receiver, bytes: &[u8], size: u32) -> u32
     o.number
 }
 
-// Data that came on a line: 0 where it is stored, or the number of the refusal.
+fn told_data(r: Receiver, line: u32, bytes: &[u8], store: &mut [u8]) -> Arrived
+    ensures { λ a. ⌜ (a ≡ dataTold r line (now (bytes .entry)) (now (store .entry)) .arrived)
+        × (now (store .exit) ≡ dataTold r line (now (bytes .entry)) (now (store .entry)) .store) ⌝ }
+{
+    let a = receiver::data_arrives(r, line, bytes, store);
+    let next = a.next;
+    let number = answers::told(a.number);
+    Arrived { number, next }
+}
+
+// Data that came on a line: 0 where it is stored, or 256 plus the number of the refusal.
 #[no_mangle]
 pub extern "C" fn stage_data(r: &mut Receiver, line: u32, bytes: &[u8], store: &mut [u8]) -> u32
-    ensures { λ n. ⌜ (n ≡ dataArrival (now (r .entry)) line (now (bytes .entry)) (now (store .entry)) .arrived .number)
-        × (now (r .exit) ≡ dataArrival (now (r .entry)) line (now (bytes .entry)) (now (store .entry)) .arrived .next)
-        × (now (store .exit) ≡ dataArrival (now (r .entry)) line (now (bytes .entry)) (now (store .entry)) .store) ⌝ }
+    ensures { λ n. ⌜ (n ≡ dataTold (now (r .entry)) line (now (bytes .entry)) (now (store .entry)) .arrived .number)
+        × (now (r .exit) ≡ dataTold (now (r .entry)) line (now (bytes .entry)) (now (store .entry)) .arrived .next)
+        × (now (store .exit) ≡ dataTold (now (r .entry)) line (now (bytes .entry)) (now (store .entry)) .store) ⌝ }
 {
-    let a = receiver::data_arrives(*r, line, bytes, store);
+    let a = told_data(*r, line, bytes, store);
     *r = a.next;
     a.number
 }
 
-// A marker that came on a line: 0 where it is stored, or the number of the refusal.
+fn told_marker(r: Receiver, line: u32, bytes: &[u8], store: &mut [u8]) -> Arrived
+    ensures { λ a. ⌜ (a ≡ markerTold r line (now (bytes .entry)) (now (store .entry)) .arrived)
+        × (now (store .exit) ≡ markerTold r line (now (bytes .entry)) (now (store .entry)) .store) ⌝ }
+{
+    let a = receiver::marker_arrives(r, line, bytes, store);
+    let next = a.next;
+    let number = answers::told(a.number);
+    Arrived { number, next }
+}
+
+// A marker that came on a line: 0 where it is stored, or 256 plus the number of the refusal.
 #[no_mangle]
 pub extern "C" fn stage_marker(r: &mut Receiver, line: u32, bytes: &[u8], store: &mut [u8]) -> u32
-    ensures { λ n. ⌜ (n ≡ markerArrival (now (r .entry)) line (now (bytes .entry)) (now (store .entry)) .arrived .number)
-        × (now (r .exit) ≡ markerArrival (now (r .entry)) line (now (bytes .entry)) (now (store .entry)) .arrived .next)
-        × (now (store .exit) ≡ markerArrival (now (r .entry)) line (now (bytes .entry)) (now (store .entry)) .store) ⌝ }
+    ensures { λ n. ⌜ (n ≡ markerTold (now (r .entry)) line (now (bytes .entry)) (now (store .entry)) .arrived .number)
+        × (now (r .exit) ≡ markerTold (now (r .entry)) line (now (bytes .entry)) (now (store .entry)) .arrived .next)
+        × (now (store .exit) ≡ markerTold (now (r .entry)) line (now (bytes .entry)) (now (store .entry)) .store) ⌝ }
 {
-    let a = receiver::marker_arrives(*r, line, bytes, store);
+    let a = told_marker(*r, line, bytes, store);
     *r = a.next;
     a.number
 }
@@ -82,8 +107,8 @@ pub extern "C" fn stage_take(r: &mut Receiver, store: &[u8], out: &mut [u8]) -> 
     t.word
 }
 
-// What a run of takes answers to C: 0 where the log is full, or else the word of the take that stopped it; how many takes there were, and how many
-// bytes they wrote.
+// What a run of takes answers to C: a word that says why it ended, which is that of the take that stopped it unless the log is full; how many takes
+// there were, and how many bytes they wrote.
 #[repr(C)]
 pub struct StageRun {
     pub why: u64,

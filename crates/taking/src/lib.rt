@@ -349,29 +349,29 @@ fn bytes_of(answer: Taken) -> usize
     }
 }
 
-// Any take's answer as a word of 64 bits: what it was in the low two bits, its line from the third on, and 64 times a length, the bytes
-// missing, or the number of a refusal. A take's own answers all fit.
+// Any take's answer as a word of 64 bits: its line, 16 times what it was, and 512 times a length or the bytes missing; or a refusal, by the rule of
+// the crate `answers`. A take's own answers all fit.
 pub fn word_of(answer: Taken) -> u64
     ensures { λ w. ⌜ w ≡ takenWord answer % 2 ^ 64 ⌝ }
 {
     match answer {
-        Taken::Data(line, n) => 4 * line as u64 + 64 * n as u64,
+        Taken::Data(line, n) => line as u64 + 512 * n as u64,
         Taken::Missing(line, missing) => std::num::wrapping_add_u64(
-            1 + 4 * line as u64,
-            64 * (missing % 0x0400_0000_0000_0000),
+            16 + line as u64,
+            512 * (missing % 0x0080_0000_0000_0000),
         ),
-        Taken::Behind(line) => 2 + 4 * line as u64,
-        Taken::Waiting(line) => 3 + 4 * line as u64,
-        Taken::Refused(number) => 3 + 64 * number as u64,
+        Taken::Behind(line) => 32 + line as u64,
+        Taken::Waiting(line) => 48 + line as u64,
+        Taken::Refused(number) => 256 + number as u64,
     }
 }
 
-// How a run ended as a word: 0 where the log is full, which is no take's word, since a packet has a length; else the word of the take that stopped it.
+// How a run ended as a word: 64, a kind of its own, where the log is full; else the word of the take that stopped it.
 pub fn ended_word(ended: Ended) -> u64
     ensures { λ w. ⌜ w ≡ endedWord ended ⌝ }
 {
     match ended {
-        Ended::Full => 0,
+        Ended::Full => 64,
         Ended::Waiting(line) => word_of(Taken::Waiting(line)),
         Ended::Refused(number) => word_of(Taken::Refused(number)),
     }
@@ -415,7 +415,7 @@ fn run_checked(r: Receiver, store: &[u8], out: &mut [u8], log: &mut [u64]) -> Ta
 }
 
 // Takes, one after another, until one waits or is refused, or the log is full. The packets lie one behind another at the front of out, and
-// the log has a word for each take: what it was (0 data, 1 missing, 2 behind), 4 times its line, and 64 times the length or the bytes missing.
+// the log has a word for each take: its line, 16 times what it was (0 data, 1 missing, 2 behind), and 512 times the length or the bytes missing.
 // Refused: 2, 9 before the log is looked at. Ended by 8: the next packet is longer than what is left of out behind the bytes written, and by 9: the
 // next item cannot be one; what was taken before stands.
 pub fn take_run(r: Receiver, store: &[u8], out: &mut [u8], log: &mut [u64]) -> TakesResult

@@ -1,15 +1,29 @@
--- `stage::open_from` meets its contract. Assumes nothing.
+-- `stage::open_from` meets its contract: the number of a refused opening is a small one. Assumes nothing.
 use borrow.Author.Needs.{needs}
-use mathlib.Core.Path.{ap, _∙_}
+use mathlib.Core.Path.{_≡_}
+use Prim.Native.Nat.{ℕ, _%_, _^_}
+use mathlib.Core.List.{List}
+use Rattle.answers.specs.Answers.{told}
+use Rattle.answers.proofs.Laws.{told-whole}
 use Rattle.plan_record.specs.declared.PlanRead.{PlanRead}
+use Rattle.plan_record.specs.Record.{planRead}
+use Rattle.receiving.specs.declared.ReceiverOpened.{ReceiverOpened}
 use Rattle.receiving.specs.Receiver.{openReceiver}
+use Rattle.stage.specs.Exports.{openFrom}
+use Rattle.stage.proofs.Small.{open-small}
 use Rattle.stage.proofs.open_from.Statement.{statement}
 use Rattle.stage.proofs.open_from.Tie as tie
 
+-- what the code says of the number, and the receiver beside it
+coded : (bytes : List ℕ) (size : ℕ) (r : PlanRead) → r ≡ planRead bytes → (o : ReceiverOpened) → o ≡ openReceiver (r .plan) size → (code : ℕ)
+    → code ≡ told (o .number) % 2 ^ 32 → record { number = code; receiver = o .receiver } ≡ openFrom bytes size
+coded bytes size r e o f code g = rw (g, f, e, told-whole (openReceiver (planRead bytes .plan) size .number) (open-small (planRead bytes .plan) size))
+
 returns : tie.Need-returns
 returns c =
-    let read = c .before .before in
-    c .«open» .ensures ∙ ap (λ (r : PlanRead). openReceiver (r .plan) (read .before .before .args .size)) (read .read-plan .ensures)
+    let opened = c .before .before in
+    let read = opened .before .before in
+    coded _ (read .before .before .args .size) (read .read-plan .result) (read .read-plan .ensures) (opened .«open» .result) (opened .«open» .ensures) _ (c .told .ensures)
 
 pub open-from-spec : {M : Type 1} → statement M
-open-from-spec = tie.close (tie.spec (λ c κs. search needs) (λ c κs. search needs) returns)
+open-from-spec = tie.close (tie.spec (λ c κs. search needs) (λ c κs. search needs) (λ c κs. search needs) returns)

@@ -10,13 +10,13 @@ use Rattle.taking.proofs.ended_word.Tie as tie
 returns-2 : tie.Need-returns-2
 returns-2 c =
     let g = c .before .before .ended .given in
-    let e : (3 + 4 * g .0 .0) % 2 ^ 64 ≡ 3 + 4 * g .0 .0 = omega arith in
+    let e : (48 + g .0 .0) % 2 ^ 64 ≡ 48 + g .0 .0 = omega arith in
     c .word-of .ensures ∙ e ∙ ap endedWord (sym (g .1))
 
 returns-3 : tie.Need-returns-3
 returns-3 c =
     let g = c .before .before .ended2 .given in
-    let e : (3 + 64 * g .0 .0) % 2 ^ 64 ≡ 3 + 64 * g .0 .0 = omega arith in
+    let e : (256 + g .0 .0) % 2 ^ 64 ≡ 256 + g .0 .0 = omega arith in
     c .word-of2 .ensures ∙ e ∙ ap endedWord (sym (g .1))
 
 pub ended-word-spec : {M : Type 1} → statement M
