@@ -14,6 +14,20 @@ pub struct Part {
     pub again: fn(u64, &mut Counts),
 }
 
+/// How long a run is, the usual one being 1: so many times, divided by so many.
+#[derive(Clone, Copy)]
+pub struct Times(u64, u64);
+
+impl Times {
+    pub const USUAL: Times = Times(1, 1);
+
+    /// As words say it: `10`, or `1/4`.
+    pub fn of(word: &str) -> Option<Times> {
+        let (times, parts) = word.split_once('/').unwrap_or((word, "1"));
+        Some(Times(times.parse().ok()?, parts.parse().ok().filter(|parts| *parts > 0)?))
+    }
+}
+
 thread_local! {
     static PLAYED: Cell<Option<(&'static str, u64)>> = const { Cell::new(None) };
 }
@@ -45,9 +59,9 @@ pub fn tell_failures() {
 }
 
 impl Part {
-    /// The cases of a run: a longer run plays the same first.
-    pub fn run(&self, base: u64, times: u64, counts: &mut Counts) {
-        for number in 0..self.cases * times {
+    /// The cases of a run: a longer run plays the same first, and the shortest one of each part.
+    pub fn run(&self, base: u64, times: Times, counts: &mut Counts) {
+        for number in 0..(self.cases * times.0).div_ceil(times.1) {
             (self.play)(seed(base, self.name, number), counts);
         }
         PLAYED.set(None);

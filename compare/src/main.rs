@@ -1,7 +1,7 @@
 //! Holds the proved functions against the second program on many cases, valid and damaged. Exits with 1 at the first difference, which it
 //! prints with the words that play its case again, and where a run has not seen what it must see.
 //!
-//!     compare [TIMES [SEED]]    a run, so many times as long as usual
+//!     compare [TIMES [SEED]]    a run, so many times as long as usual (10, 1/4)
 //!     compare again PART SEED   one case
 //!     compare bench             times sends and takes instead
 //!
@@ -36,7 +36,7 @@ mod structs;
 mod taking;
 mod text;
 
-use cases::Part;
+use cases::{Part, Times};
 use counts::Counts;
 
 const SEED: u64 = 2026;
@@ -77,7 +77,7 @@ fn usage(wrong: &str) -> ! {
     std::process::exit(2)
 }
 
-fn run(times: u64, base: u64) {
+fn run(times: Times, base: u64) {
     let mut counts = Counts::new();
     PARTS.iter().for_each(|part| part.run(base, times, &mut counts));
     counts.print();
@@ -109,6 +109,7 @@ fn main() {
             bench_takes::takes();
         }
         Some("again") => again(words.get(1).map_or("", String::as_str), number(2, 0)),
-        _ => run(number(0, 1), number(1, SEED)),
+        Some(times) => run(Times::of(times).unwrap_or_else(|| usage("not a length")), number(1, SEED)),
+        None => run(Times::USUAL, SEED),
     }
 }
