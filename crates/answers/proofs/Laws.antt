@@ -1,10 +1,11 @@
 -- C reads from an answer what it says. Assumes nothing.
-use mathlib.Core.Path.{_≡_, refl}
+use mathlib.Core.Path.{_≡_, refl, ap, sym, _∙_}
 use Prim.Native.Nat.{ℕ, _+_, _*_, _/_, _%_, _^_, _≤_, _<_}
 use native.Mathlib.Omega.{arith}
 use mathlib.Core.Bool.{Bool, true, false, cond}
 use lib.Dec.{eqb}
 use borrow.Author.Tests.{eq-eqb, ne-eqb, eqb-true}
+use Rattle.numbers.proofs.Checks.{never}
 use Rattle.answers.specs.Answers.{refusal, told, refusedIn, numberIn, toldIn, lineIn}
 
 module _ (k : ℕ) (small : k < 256) where
@@ -37,6 +38,10 @@ below-256 w h = not-refused w (omega arith)
 
 pub told-none : (number : ℕ) → number ≡ 0 → told number ≡ 0
 told-none number e = rw e refl
+
+-- what is told and read as a refusal has a number
+pub has-number : (number : ℕ) → refusedIn (told number) ≡ true → number ≡ 0 → ⊥
+has-number number h e = never (sym h ∙ ap refusedIn (told-none number e) ∙ below-256 0 (omega arith))
 
 pub told-some : (number : ℕ) → (number ≡ 0 → ⊥) → told number ≡ refusal number
 told-some number h = rw (ne-eqb number 0 h) refl

@@ -5,7 +5,7 @@ use Prim.Native.Nat.{ℕ, _+_, _≤_, _<_}
 use native.Mathlib.Omega.{arith}
 use mathlib.Core.Bool.{Bool, true, false, cond}
 use mathlib.Core.Logic.{_⊎_, inl, inr}
-use mathlib.Core.List.{List, [], _∷_}
+use mathlib.Core.List.{List}
 use lib.ListN.{length}
 use Rattle.numbers.specs.declared.Written.{Written}
 use Rattle.numbers.specs.declared.Written.the-variants as written
@@ -13,10 +13,10 @@ use Rattle.numbers.specs.Coding.{coded}
 use Rattle.numbers.specs.Writing.{outcome}
 use Rattle.numbers.specs.Writing as writing
 use Rattle.numbers.proofs.Checks.{never}
-use Rattle.numbers.proofs.Laws.{coded-short, row-short, answered-length, refused-out}
+use Rattle.numbers.proofs.Laws.{coded-short, answered-length, refused-out}
 use Rattle.plan.specs.declared.Plan.{Plan}
 use Rattle.answers.specs.Answers.{told, refusedIn}
-use Rattle.answers.proofs.Laws.{below-256, told-none}
+use Rattle.answers.proofs.Laws.{below-256, has-number}
 use Rattle.plan.specs.Plan.{at, noPlan, planOk}
 use Rattle.plan_record.specs.declared.PlanRead.{PlanRead}
 use Rattle.plan_record.specs.Record.{refusedPlan, planRead, planBytes, planWritten}
@@ -31,6 +31,7 @@ use Rattle.sending.specs.declared.Sent.the-variants as sent
 use Rattle.sending.specs.Sender.{closedSender, openedSender, openSender, sendOf, lineMarker, markerFrom}
 use Rattle.sending.proofs.Promises.{refused-stays, sent-on-line}
 use Rattle.booth.specs.Exports.{exported, exportedSent, planFrom, copied, openFrom}
+use Rattle.booth.proofs.Small.{marker-short}
 
 -- a writer
 kept : (number : ℕ) (bytes out : List ℕ) → length bytes ≤ 99 → refusedIn (exported (outcome number bytes out .answer)) ≡ true → outcome number bytes out .out ≡ out
@@ -41,9 +42,6 @@ kept number bytes out short = go (outcome number bytes out .answer) refl
         let small : n < 256 = omega (arith, answered-length number bytes out n e) in
         absurd (never (sym h ∙ ap (λ (w : Written). refusedIn (exported w)) e ∙ below-256 n small))
     go (written.Refused k) e h = refused-out number bytes out k e
-
-marker-short : (m : Marker) → length (markerBytes m) ≤ 99
-marker-short m = row-short (m .line ∷ m .round ∷ m .counter ∷ [])
 
 pub number-refused : (v : ℕ) (out : List ℕ) → refusedIn (exported (writing.written (coded 32 v) out .answer)) ≡ true → writing.written (coded 32 v) out .out ≡ out
 number-refused v out = kept _ (coded 32 v) out (omega (arith, coded-short 32 v))
@@ -83,7 +81,7 @@ pub read-refused : (b : List ℕ) → refusedIn (planFrom b .number) ≡ true �
 read-refused b h = go (read-or-refused b)
   where
     go : (planRead b .number ≡ 0) ⊎ (planRead b ≡ refusedPlan) → planRead b .plan ≡ noPlan
-    go (inl good) = absurd (never (sym h ∙ ap refusedIn (told-none (planRead b .number) good) ∙ below-256 0 (omega arith)))
+    go (inl good) = absurd (has-number (planRead b .number) h good)
     go (inr bad) = ap (λ (r : PlanRead). r .plan) bad
 
 pub open-refused : (b : List ℕ) → refusedIn (openFrom b .number) ≡ true → openFrom b .sender ≡ closedSender
@@ -94,5 +92,5 @@ open-refused b = go (planOk (planRead b .plan))
     opened t = cond t (record { number = 0; sender = openedSender (planRead b .plan) }) (record { number = 1; sender = closedSender })
 
     go : (t : Bool) → refusedIn (told (opened t .number)) ≡ true → opened t .sender ≡ closedSender
-    go true h = absurd (never (sym h ∙ below-256 0 (omega arith)))
+    go true h = absurd (has-number 0 h refl)
     go false h = refl

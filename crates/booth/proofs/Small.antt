@@ -74,7 +74,7 @@ three x y z hx hy hz true true false = hz
 three x y z hx hy hz true false c = hy
 three x y z hx hy hz false b c = hx
 
-marker-short : (m : Marker) → length (markerBytes m) ≤ 99
+pub marker-short : (m : Marker) → length (markerBytes m) ≤ 99
 marker-short m = row-short (m .line ∷ m .round ∷ m .counter ∷ [])
 
 pub written-tells : (m : Marker) (out : List ℕ) → Tells (markerWritten m out .answer)

@@ -1,9 +1,9 @@
 -- An answer tells what was answered: what C reads from it is that. So no two outcomes of a call have one answer, a good one and a refused one least
 -- of all; and of a refusal none of C's macros gives a length, a place or a line that there is. Assumes nothing.
 use mathlib.Core.Path.{_≡_, refl, ap, ap₂, sym, _∙_}
-use Prim.Native.Nat.{ℕ, _+_, _*_, _/_, _%_, _^_, _≤_, _<_}
+use Prim.Native.Nat.{ℕ, _+_, _*_, _/_, _%_, _≤_, _<_}
 use native.Mathlib.Omega.{arith}
-use mathlib.Core.Bool.{Bool, true, false, cond}
+use mathlib.Core.Bool.{true, false}
 use mathlib.Core.List.{List}
 use borrow.Author.Tests.{eq-eqb, ne-eqb}
 use Rattle.numbers.specs.declared.Reading.{Reading}
@@ -13,7 +13,7 @@ use Rattle.numbers.specs.declared.Written.the-variants as written
 use Rattle.numbers.specs.Coding.{readingOf, coded}
 use Rattle.numbers.specs.Writing as writing
 use Rattle.numbers.proofs.Laws.{place, size}
-use Rattle.answers.specs.Answers.{refusal, refusedIn, toldIn, lineIn}
+use Rattle.answers.specs.Answers.{refusal, toldIn, lineIn}
 use Rattle.answers.proofs.Laws.{refusal-read, bit-8-clear, below-256, told-back}
 use Rattle.plan.specs.declared.Plan.{Plan}
 use Rattle.plan.specs.Limits.{mostLines, mostQuantum}

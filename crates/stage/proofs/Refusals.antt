@@ -1,14 +1,14 @@
 -- A call at the stage that answers what C reads as a refusal leaves everything that it was lent as it was, and a refused opening leaves zeros.
 -- Assumes nothing.
-use mathlib.Core.Path.{_≡_, refl, ap, sym, _∙_}
+use mathlib.Core.Path.{_≡_, refl, sym, _∙_}
 use Prim.Native.Nat.{ℕ, _+_, _*_}
 use native.Mathlib.Omega.{arith}
 use mathlib.Core.Bool.{Bool, true, false, cond, _&&_}
 use mathlib.Core.List.{List}
 use lib.ListN.{length}
 use Rattle.numbers.proofs.Checks.{never}
-use Rattle.answers.specs.Answers.{told, refusedIn}
-use Rattle.answers.proofs.Laws.{bit-8-clear, below-256, told-none}
+use Rattle.answers.specs.Answers.{refusedIn}
+use Rattle.answers.proofs.Laws.{bit-8-clear, below-256, has-number}
 use Rattle.plan.specs.Plan.{planOk, storeOk}
 use Rattle.plan_record.specs.Record.{planRead}
 use Rattle.receiving.specs.declared.Receiver.{Receiver}
@@ -24,16 +24,12 @@ use Rattle.taking.specs.Words.{takenWord}
 use Rattle.taking.proofs.Words.{Told, take-told}
 use Rattle.stage.specs.Exports.{openFrom, dataTold, markerTold, kindIn}
 
--- what is told and read as a refusal has a number
-some-number : (number : ℕ) → refusedIn (told number) ≡ true → number ≡ 0 → ⊥
-some-number number h e = never (sym h ∙ ap refusedIn (told-none number e) ∙ below-256 0 (omega arith))
-
 module _ (r : Receiver) (i : ℕ) (b store : List ℕ) where
   pub data-refused : let a = dataTold r i b store in refusedIn (a .arrived .number) ≡ true → (a .arrived .next ≡ r) × (a .store ≡ store)
-  data-refused h = demand-1 .data-refused r i b store (some-number _ h)
+  data-refused h = demand-1 .data-refused r i b store (has-number _ h)
 
   pub marker-refused : let a = markerTold r i b store in refusedIn (a .arrived .number) ≡ true → (a .arrived .next ≡ r) × (a .store ≡ store)
-  marker-refused h = demand-1 .marker-refused r i b store (some-number _ h)
+  marker-refused h = demand-1 .marker-refused r i b store (has-number _ h)
 
 -- a take: refused, or waiting, which is the kind 3
 module _ (r : Receiver) (store out : List ℕ) where
@@ -76,7 +72,7 @@ module _ (r : Receiver) (store out log : List ℕ) where
 
 pub open-refused : (b : List ℕ) (size : ℕ) → refusedIn (openFrom b size .number) ≡ true → openFrom b size .receiver ≡ closedReceiver
 unfolding openReceiver
-open-refused b size h = go (planOk (planRead b .plan) && storeOk (planRead b .plan) size) (some-number _ h)
+open-refused b size h = go (planOk (planRead b .plan) && storeOk (planRead b .plan) size) (has-number _ h)
   where
     opened : Bool → ReceiverOpened
     opened t = cond t (record { number = 0; receiver = openedReceiver (planRead b .plan) size }) (record { number = 1; receiver = closedReceiver })

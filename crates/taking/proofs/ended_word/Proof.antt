@@ -2,7 +2,7 @@
 use borrow.Author.Needs.{needs}
 use native.Mathlib.Omega.{arith}
 use mathlib.Core.Path.{_≡_, ap, sym, _∙_}
-use Prim.Native.Nat.{_+_, _*_, _%_, _^_}
+use Prim.Native.Nat.{_+_, _%_, _^_}
 use Rattle.taking.specs.Words.{endedWord}
 use Rattle.taking.proofs.ended_word.Statement.{statement}
 use Rattle.taking.proofs.ended_word.Tie as tie
