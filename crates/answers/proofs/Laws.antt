@@ -43,7 +43,7 @@ told-none number e = rw e refl
 pub has-number : (number : ℕ) → refusedIn (told number) ≡ true → number ≡ 0 → ⊥
 has-number number h e = never (sym h ∙ ap refusedIn (told-none number e) ∙ below-256 0 (omega arith))
 
-pub told-some : (number : ℕ) → (number ≡ 0 → ⊥) → told number ≡ refusal number
+pub told-some : (number : ℕ) → (number ≡ 0 → ⊥) → told number ≡ 256 + number
 told-some number h = rw (ne-eqb number 0 h) refl
 
 pub told-fits : (number : ℕ) → number < 256 → told number < 2 ^ 32

@@ -15,10 +15,11 @@ use denote.Triple.Clauses.{AtExit}
 use denote.Triple.Entry.{Args}
 use Rattle.numbers.proofs.Tight.{only, OneAnswer, OneOutcome}
 use Rattle.plan.specs.declared.Plan.{Plan}
-use Rattle.plan_record.specs.Record.{planWritten}
+use Rattle.answers.specs.Answers.{told}
+use Rattle.plan_record.specs.Record.{planRead, planWritten}
 use Rattle.sending.specs.declared.Sender.{Sender}
-use Rattle.sending.specs.Sender.{sendOf, markerFrom}
-use Rattle.booth.specs.Exports.{exported, planFrom, exportedSent, openFrom}
+use Rattle.sending.specs.Sender.{openSender, sendOf, markerFrom}
+use Rattle.booth.specs.Exports.{exported, exportedSent}
 use Rattle.booth.proofs.stripes_write_marker.Reads as write-marker
 use Rattle.booth.proofs.stripes_write_marker.Kinds as write-marker-kinds
 use Rattle.booth.proofs.stripes_read_number.Reads as read-number
@@ -86,7 +87,7 @@ write-tight p out r r′ end end′ x y = (only (x .0) (y .0), only (x .1) (y .1
 -- ---- a plan read into the one that C holds: its number and the plan as it leaves it
 
 abbrev ReadSays : List ℕ → ℕ → Plan → Type 0
-ReadSays bytes r next = (r ≡ planFrom bytes .number) × (next ≡ planFrom bytes .plan)
+ReadSays bytes r next = (r ≡ told (planRead bytes .number)) × (next ≡ planRead bytes .plan)
 
 pub read-clause :
     {M : Type 1} (𝓤 : URA M) (H : Heap 𝓤) (A : Atoms 𝓤) (mem : Memory → SProp 𝓤) (run : Routine → Fun 𝓤) (κs : Lfts 2)
@@ -100,7 +101,7 @@ read-tight bytes r r′ next next′ p q = (only (p .0) (q .0), only (p .1) (q .
 -- ---- opening: its number and the sender as it leaves it
 
 abbrev OpenSays : List ℕ → ℕ → Sender → Type 0
-OpenSays bytes r next = (r ≡ openFrom bytes .number) × (next ≡ openFrom bytes .sender)
+OpenSays bytes r next = (r ≡ told (openSender (planRead bytes .plan) .number)) × (next ≡ openSender (planRead bytes .plan) .sender)
 
 pub open-clause :
     {M : Type 1} (𝓤 : URA M) (H : Heap 𝓤) (A : Atoms 𝓤) (mem : Memory → SProp 𝓤) (run : Routine → Fun 𝓤) (κs : Lfts 2)

@@ -30,7 +30,7 @@ use Rattle.sending.specs.declared.Sent.{Sent}
 use Rattle.sending.specs.declared.Sent.the-variants as sent
 use Rattle.sending.specs.Sender.{closedSender, openedSender, openSender, sendOf, lineMarker, markerFrom}
 use Rattle.sending.proofs.Promises.{refused-stays, sent-on-line}
-use Rattle.booth.specs.Exports.{exported, exportedSent, planFrom, copied, openFrom}
+use Rattle.booth.specs.Exports.{exported, exportedSent, copied}
 use Rattle.booth.proofs.Small.{marker-short}
 
 -- a writer
@@ -77,19 +77,19 @@ send-refused s n = go (sendOf s n .answer) refl
         absurd (never (sym h ∙ ap (λ (t : Sent). refusedIn (exportedSent t)) e ∙ below-256 (line + cond due 16 0) small))
     go (sent.Refused k) e h = refused-stays s n k e
 
-pub read-refused : (b : List ℕ) → refusedIn (planFrom b .number) ≡ true → planFrom b .plan ≡ noPlan
+pub read-refused : (b : List ℕ) → refusedIn (told (planRead b .number)) ≡ true → planRead b .plan ≡ noPlan
 read-refused b h = go (read-or-refused b)
   where
     go : (planRead b .number ≡ 0) ⊎ (planRead b ≡ refusedPlan) → planRead b .plan ≡ noPlan
     go (inl good) = absurd (has-number (planRead b .number) h good)
     go (inr bad) = ap (λ (r : PlanRead). r .plan) bad
 
-pub open-refused : (b : List ℕ) → refusedIn (openFrom b .number) ≡ true → openFrom b .sender ≡ closedSender
+pub open-refused : (p : Plan) → refusedIn (told (openSender p .number)) ≡ true → openSender p .sender ≡ closedSender
 unfolding openSender
-open-refused b = go (planOk (planRead b .plan))
+open-refused p = go (planOk p)
   where
     opened : Bool → SenderOpened
-    opened t = cond t (record { number = 0; sender = openedSender (planRead b .plan) }) (record { number = 1; sender = closedSender })
+    opened t = cond t (record { number = 0; sender = openedSender p }) (record { number = 1; sender = closedSender })
 
     go : (t : Bool) → refusedIn (told (opened t .number)) ≡ true → opened t .sender ≡ closedSender
     go true h = absurd (has-number 0 h refl)

@@ -13,7 +13,7 @@ use Rattle.numbers.specs.declared.Written.the-variants as written
 use Rattle.numbers.specs.Coding.{readingOf, coded}
 use Rattle.numbers.specs.Writing as writing
 use Rattle.numbers.proofs.Laws.{place, size}
-use Rattle.answers.specs.Answers.{refusal, toldIn, lineIn}
+use Rattle.answers.specs.Answers.{refusal, told, toldIn, lineIn}
 use Rattle.answers.proofs.Laws.{refusal-read, bit-8-clear, below-256, told-back}
 use Rattle.plan.specs.declared.Plan.{Plan}
 use Rattle.plan.specs.Limits.{mostLines, mostQuantum}
@@ -29,8 +29,24 @@ use Rattle.sending.specs.declared.Sent.the-variants as sent
 use Rattle.sending.specs.Sender.{openSender, sendOf, markerFrom}
 use Rattle.sending.proofs.Laws as sends
 use Rattle.sending.proofs.Promises.{sent-on-line}
-use Rattle.booth.specs.Exports.{exported, writtenIn, exportedReading, readingIn, exportedMarker, markerIn, exportedSent, sentIn, planFrom, openFrom}
+use Rattle.booth.specs.Exports.{exported, writtenIn, exportedReading, readingIn, exportedMarker, markerIn, exportedSent, sentIn}
 use Rattle.booth.proofs.Small.{Tells, value-tells, plan-tells, written-tells, asked-tells, read-small, open-small}
+
+-- ---- in figures, as include/booth.h has them
+
+pub writer-figures : (n k : ℕ) → (exported (written.Length n) ≡ n) × (exported (written.Refused k) ≡ 256 + k)
+writer-figures n k = (refl, refl)
+
+pub reading-figures : (v at : ℕ) → (exportedReading (Number v at) ≡ at + 4294967296 * v) × (exportedReading Nothing ≡ 261)
+reading-figures v at = (refl, refl)
+
+pub marker-figures : (m : Marker) (k : ℕ)
+    → (exportedMarker (Whole m) ≡ m .line + 512 * m .counter + 4294967296 * m .round) × (exportedMarker (Refused k) ≡ 256 + k)
+marker-figures m k = (refl, refl)
+
+pub send-figures : (line k : ℕ)
+    → (exportedSent (sent.Went line false) ≡ line) × (exportedSent (sent.Went line true) ≡ line + 16) × (exportedSent (sent.Refused k) ≡ 256 + k)
+send-figures line k = (omega arith, refl, refl)
 
 -- ---- the writers, and what has nothing to tell but a refusal
 
@@ -51,11 +67,11 @@ written-reads-back m out = written-back _ (written-tells m out)
 pub asked-reads-back : (s : Sender) (i : ℕ) (out : List ℕ) → writtenIn (exported (markerFrom s i out .answer)) ≡ markerFrom s i out .answer
 asked-reads-back s i out = written-back _ (asked-tells s i out)
 
-pub plan-number-reads-back : (b : List ℕ) → toldIn (planFrom b .number) ≡ planRead b .number
+pub plan-number-reads-back : (b : List ℕ) → toldIn (told (planRead b .number)) ≡ planRead b .number
 plan-number-reads-back b = told-back _ (read-small b)
 
-pub open-number-reads-back : (b : List ℕ) → toldIn (openFrom b .number) ≡ openSender (planRead b .plan) .number
-open-number-reads-back b = told-back _ (open-small (planRead b .plan))
+pub open-number-reads-back : (p : Plan) → toldIn (told (openSender p .number)) ≡ openSender p .number
+open-number-reads-back p = told-back _ (open-small p)
 
 -- ---- a number
 
@@ -71,7 +87,7 @@ number-told : (r : Reading) → ToldNumber r → readingIn (exportedReading r) �
 unfolding readingIn
 number-told Nothing h = rw (refusal-read 5 (omega arith) .0) refl
 number-told (Number v at) h =
-    let w = at + 4294967296 * v in
+    let w = exportedReading (Number v at) in
     rw (bit-8-clear w at (8388608 * v) (omega arith) h) (ap₂ Number (omega arith) (omega arith))
 
 -- what C reads from a number's answer is the reading
@@ -93,7 +109,7 @@ marker-told : (r : MarkerRead) → ToldMarker r → markerIn (exportedMarker r) 
 unfolding markerIn
 marker-told (Refused k) h = let read = refusal-read k (omega arith) in rw (read .0) (ap Refused (read .1))
 marker-told (Whole m) h =
-    let w = m .line + 512 * m .counter + 4294967296 * m .round in
+    let w = exportedMarker (Whole m) in
     let line : w % 512 ≡ m .line = omega arith in
     let round : w / 4294967296 ≡ m .round = omega arith in
     let low : w % 4294967296 ≡ m .line + 512 * m .counter = omega arith in
@@ -123,10 +139,10 @@ ToldSent (sent.Refused k) = k < 256
 sent-told : (t : Sent) → ToldSent t → sentIn (exportedSent t) ≡ t
 unfolding sentIn
 sent-told (sent.Went line true) h =
-    let w = line + 16 in
+    let w = exportedSent (sent.Went line true) in
     rw (below-256 w (omega arith)) (ap₂ sent.Went (omega arith) (eq-eqb (w / 16 % 2) 1 (omega arith)))
 sent-told (sent.Went line false) h =
-    let w = line + 0 in
+    let w = exportedSent (sent.Went line false) in
     rw (below-256 w (omega arith)) (ap₂ sent.Went (omega arith) (ne-eqb (w / 16 % 2) 1 (omega arith)))
 sent-told (sent.Refused k) h = rw (refusal-read k h .0) (ap sent.Refused (refusal-read k h .1))
 

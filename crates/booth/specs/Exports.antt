@@ -49,7 +49,7 @@ exportedMarker (m.Refused number) = refusal number
 unfoldable pub markerIn : ℕ → MarkerRead
 markerIn a = cond (refusedIn a) (m.Refused (numberIn a)) (m.Whole (markerOf (a % 512) (a / bit32) (a % bit32 / 512)))
 
--- a send's: the line, 16 added when markers are due; and the next state beside it
+-- a send's: the line, 16 added when markers are due
 abbrev pub exportedSent : Sent → ℕ
 exportedSent (s.Went line due) = line + cond due 16 0
 exportedSent (s.Refused k) = refusal k
@@ -57,15 +57,19 @@ exportedSent (s.Refused k) = refusal k
 unfoldable pub sentIn : ℕ → Sent
 sentIn a = cond (refusedIn a) (s.Refused (numberIn a)) (s.Went (lineIn a) (eqb (a / 16 % 2) 1))
 
+-- the plan of a record, written again
+abbrev pub copied : List ℕ → List ℕ → Outcome
+copied bytes out = planWritten (planRead bytes .plan) out
+
+-- ---- what the steps inside the calls answer; the calls' contracts cite what they call
+
+-- a send's number, and the next state beside it
 abbrev pub codedSend : Sender → ℕ → CodedSend
 codedSend s length = record { code = exportedSent (sendOf s length .answer); next = sendOf s length .next }
 
--- a plan read from its record, and that plan written again
+-- a plan read from its record
 abbrev pub planFrom : List ℕ → PlanRead
 planFrom bytes = record { number = told (planRead bytes .number); plan = planRead bytes .plan }
-
-abbrev pub copied : List ℕ → List ℕ → Outcome
-copied bytes out = planWritten (planRead bytes .plan) out
 
 -- a sender opened on the plan of a record
 abbrev pub openFrom : List ℕ → SenderOpened

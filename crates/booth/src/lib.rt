@@ -14,9 +14,10 @@ ghost use mathlib.Core.Path.{_≡_};
 ghost use Prim.Native.Nat.{_<_, _^_};
 ghost use Rattle.numbers.specs.Coding.{readingOf, coded};
 ghost use Rattle.numbers.specs.Writing.{written};
+ghost use Rattle.answers.specs.Answers.{told};
 ghost use Rattle.plan_record.specs.Record.{planRead, planWritten};
 ghost use Rattle.marker.specs.Marker.{markerOf, markerRead, markerWritten};
-ghost use Rattle.sending.specs.Sender.{sendOf, markerFrom};
+ghost use Rattle.sending.specs.Sender.{openSender, sendOf, markerFrom};
 ghost use Rattle.booth.specs.Exports.{exported, exportedReading, exportedMarker, planFrom, copied, exportedSent, codedSend, openFrom};
 
 // A writer's answer as C gets it.
@@ -114,7 +115,7 @@ fn plan_from(bytes: &[u8]) -> PlanRead
 // Reads a record into the plan that C holds: 0, or 256 plus the number of the refusal and an all-zero plan.
 #[no_mangle]
 pub extern "C" fn stripes_read_plan(p: &mut Plan, bytes: &[u8]) -> u32
-    ensures { λ r. ⌜ (r ≡ planFrom (now (bytes .entry)) .number) × (now (p .exit) ≡ planFrom (now (bytes .entry)) .plan) ⌝ }
+    ensures { λ r. ⌜ (r ≡ told (planRead (now (bytes .entry)) .number)) × (now (p .exit) ≡ planRead (now (bytes .entry)) .plan) ⌝ }
 {
     let r = plan_from(bytes);
     *p = r.plan;
@@ -188,7 +189,8 @@ fn open_from(bytes: &[u8]) -> SenderOpened
 // Opens the sender that C holds, on the plan of a record: 0, or 256 plus the number of the refusal and the closed state.
 #[no_mangle]
 pub extern "C" fn stripes_open(s: &mut Sender, bytes: &[u8]) -> u32
-    ensures { λ r. ⌜ (r ≡ openFrom (now (bytes .entry)) .number) × (now (s .exit) ≡ openFrom (now (bytes .entry)) .sender) ⌝ }
+    ensures { λ r. ⌜ (r ≡ told (openSender (planRead (now (bytes .entry)) .plan) .number))
+        × (now (s .exit) ≡ openSender (planRead (now (bytes .entry)) .plan) .sender) ⌝ }
 {
     let r = open_from(bytes);
     *s = r.sender;

@@ -14,13 +14,16 @@ use contract.Monad.{Fun, fact}
 use denote.Triple.Clauses.{AtExit}
 use denote.Triple.Entry.{Args}
 use Rattle.numbers.proofs.Tight.{only}
+use Rattle.answers.specs.Answers.{told}
+use Rattle.plan_record.specs.Record.{planRead}
 use Rattle.receiving.specs.declared.Receiver.{Receiver}
-use Rattle.receiving.specs.Arriving.{Arrival}
+use Rattle.receiving.specs.Receiver.{openReceiver}
+use Rattle.receiving.specs.Arriving.{Arrival, dataArrival, markerArrival}
 use Rattle.receiving.specs.Taking.{takeOf}
 use Rattle.receiving.specs.Takes.{takesOf}
 use Rattle.taking.specs.Words.{takenWord}
 use Rattle.stage.specs.declared.StageRun.{StageRun}
-use Rattle.stage.specs.Exports.{openFrom, dataTold, markerTold, stageRun}
+use Rattle.stage.specs.Exports.{stageRun}
 use Rattle.stage.proofs.stage_open as thin-open
 use Rattle.stage.proofs.stage_data as thin-data
 use Rattle.stage.proofs.stage_marker as thin-marker
@@ -30,7 +33,7 @@ use Rattle.stage.proofs.stage_takes as thin-takes
 -- ---- opening: its number and the receiver as it leaves it
 
 abbrev OpenSays : List ℕ → ℕ → ℕ → Receiver → Type 0
-OpenSays bytes size n next = (n ≡ openFrom bytes size .number) × (next ≡ openFrom bytes size .receiver)
+OpenSays bytes size n next = (n ≡ told (openReceiver (planRead bytes .plan) size .number)) × (next ≡ openReceiver (planRead bytes .plan) size .receiver)
 
 pub open-clause :
     {M : Type 1} (𝓤 : URA M) (H : Heap 𝓤) (A : Atoms 𝓤) (mem : Memory → SProp 𝓤) (run : Routine → Fun 𝓤) (κs : Lfts 2)
@@ -42,30 +45,30 @@ pub open-tight : (bytes : List ℕ) (size n n′ : ℕ) (next next′ : Receiver
     → (n ≡ n′) × (next ≡ next′)
 open-tight bytes size n n′ next next′ p q = (only (p .0) (q .0), only (p .1) (q .1))
 
--- ---- data or a marker that came, and is answered so: its number, and the receiver and the store as it leaves them
+-- ---- data or a marker that came: its number, and the receiver and the store as it leaves them
 
 abbrev ArrivalSays : (Receiver → ℕ → List ℕ → List ℕ → Arrival) → Receiver → ℕ → List ℕ → List ℕ → ℕ → Receiver → List ℕ → Type 0
-ArrivalSays answered r line bytes store n next end =
-    (n ≡ answered r line bytes store .arrived .number) × (next ≡ answered r line bytes store .arrived .next) × (end ≡ answered r line bytes store .store)
+ArrivalSays arrival r line bytes store n next end =
+    (n ≡ told (arrival r line bytes store .arrived .number)) × (next ≡ arrival r line bytes store .arrived .next) × (end ≡ arrival r line bytes store .store)
 
 pub data-clause :
     {M : Type 1} (𝓤 : URA M) (H : Heap 𝓤) (A : Atoms 𝓤) (mem : Memory → SProp 𝓤) (run : Routine → Fun 𝓤) (κs : Lfts 3)
     (a : Args thin-data.signature κs) (n : ℕ) (e : AtExit thin-data.ended κs)
     → thin-data.clauses 𝓤 H A mem run κs a .ensures tt n e
-    ≡ fact 𝓤 (ArrivalSays dataTold (a .0 .now) (a .1 .0) (a .1 .1 .0 .now) (a .1 .1 .1 .0 .now) n (e .0 .now) (e .1 .1 .1 .0 .now))
+    ≡ fact 𝓤 (ArrivalSays dataArrival (a .0 .now) (a .1 .0) (a .1 .1 .0 .now) (a .1 .1 .1 .0 .now) n (e .0 .now) (e .1 .1 .1 .0 .now))
 data-clause 𝓤 H A mem run κs a n e = refl
 
 pub marker-clause :
     {M : Type 1} (𝓤 : URA M) (H : Heap 𝓤) (A : Atoms 𝓤) (mem : Memory → SProp 𝓤) (run : Routine → Fun 𝓤) (κs : Lfts 3)
     (a : Args thin-marker.signature κs) (n : ℕ) (e : AtExit thin-marker.ended κs)
     → thin-marker.clauses 𝓤 H A mem run κs a .ensures tt n e
-    ≡ fact 𝓤 (ArrivalSays markerTold (a .0 .now) (a .1 .0) (a .1 .1 .0 .now) (a .1 .1 .1 .0 .now) n (e .0 .now) (e .1 .1 .1 .0 .now))
+    ≡ fact 𝓤 (ArrivalSays markerArrival (a .0 .now) (a .1 .0) (a .1 .1 .0 .now) (a .1 .1 .1 .0 .now) n (e .0 .now) (e .1 .1 .1 .0 .now))
 marker-clause 𝓤 H A mem run κs a n e = refl
 
-pub arrival-tight : (answered : Receiver → ℕ → List ℕ → List ℕ → Arrival) (r : Receiver) (line : ℕ) (bytes store : List ℕ) (n n′ : ℕ) (next next′ : Receiver)
-    (end end′ : List ℕ) → ArrivalSays answered r line bytes store n next end → ArrivalSays answered r line bytes store n′ next′ end′
+pub arrival-tight : (arrival : Receiver → ℕ → List ℕ → List ℕ → Arrival) (r : Receiver) (line : ℕ) (bytes store : List ℕ) (n n′ : ℕ) (next next′ : Receiver)
+    (end end′ : List ℕ) → ArrivalSays arrival r line bytes store n next end → ArrivalSays arrival r line bytes store n′ next′ end′
     → (n ≡ n′) × (next ≡ next′) × (end ≡ end′)
-arrival-tight answered r line bytes store n n′ next next′ end end′ p q = (only (p .0) (q .0), only (p .1) (q .1), only (p .2) (q .2))
+arrival-tight arrival r line bytes store n n′ next next′ end end′ p q = (only (p .0) (q .0), only (p .1) (q .1), only (p .2) (q .2))
 
 -- ---- a take: its word, and the receiver and the output as it leaves them
 

@@ -7,28 +7,29 @@ use mathlib.Core.Bool.{Bool, true, false, cond, _&&_}
 use mathlib.Core.List.{List}
 use lib.ListN.{length}
 use Rattle.numbers.proofs.Checks.{never}
-use Rattle.answers.specs.Answers.{refusedIn}
+use Rattle.answers.specs.Answers.{told, refusedIn}
 use Rattle.answers.proofs.Laws.{bit-8-clear, below-256, has-number}
 use Rattle.plan.specs.Plan.{planOk, storeOk}
-use Rattle.plan_record.specs.Record.{planRead}
+use Rattle.plan.specs.declared.Plan.{Plan}
 use Rattle.receiving.specs.declared.Receiver.{Receiver}
 use Rattle.receiving.specs.declared.ReceiverOpened.{ReceiverOpened}
 use Rattle.receiving.specs.declared.Taken.{Taken}
 use Rattle.receiving.specs.declared.Taken.the-variants.{Waiting, Data, Missing, Behind, Refused}
 use Rattle.receiving.specs.Receiver.{closedReceiver, openedReceiver, openReceiver, receiverOk}
+use Rattle.receiving.specs.Arriving.{dataArrival, markerArrival}
 use Rattle.receiving.specs.Taking.{takeOf}
 use Rattle.receiving.specs.Takes.{goesOn, Run, takesOf}
 use Rattle.receiving.proofs.Promises.{demand-1}
 use Rattle.receiving.proofs.Runs.{bad-state, bad-store}
 use Rattle.taking.specs.Words.{takenWord}
 use Rattle.taking.proofs.Words.{Told, take-told}
-use Rattle.stage.specs.Exports.{openFrom, dataTold, markerTold, kindIn}
+use Rattle.stage.specs.Exports.{kindIn}
 
 module _ (r : Receiver) (i : ℕ) (b store : List ℕ) where
-  pub data-refused : let a = dataTold r i b store in refusedIn (a .arrived .number) ≡ true → (a .arrived .next ≡ r) × (a .store ≡ store)
+  pub data-refused : let a = dataArrival r i b store in refusedIn (told (a .arrived .number)) ≡ true → (a .arrived .next ≡ r) × (a .store ≡ store)
   data-refused h = demand-1 .data-refused r i b store (has-number _ h)
 
-  pub marker-refused : let a = markerTold r i b store in refusedIn (a .arrived .number) ≡ true → (a .arrived .next ≡ r) × (a .store ≡ store)
+  pub marker-refused : let a = markerArrival r i b store in refusedIn (told (a .arrived .number)) ≡ true → (a .arrived .next ≡ r) × (a .store ≡ store)
   marker-refused h = demand-1 .marker-refused r i b store (has-number _ h)
 
 -- a take: refused, or waiting, which is the kind 3
@@ -70,12 +71,12 @@ module _ (r : Receiver) (store out log : List ℕ) where
   pub run-refused-9 : receiverOk r ≡ true → (length store ≡ r .plan .lines * r .rings .size → ⊥) → Kept (takesOf r store out log)
   run-refused-9 good bad = rw (← bad-store r store out log good bad) (refl, refl, refl, refl, refl)
 
-pub open-refused : (b : List ℕ) (size : ℕ) → refusedIn (openFrom b size .number) ≡ true → openFrom b size .receiver ≡ closedReceiver
+pub open-refused : (p : Plan) (size : ℕ) → refusedIn (told (openReceiver p size .number)) ≡ true → openReceiver p size .receiver ≡ closedReceiver
 unfolding openReceiver
-open-refused b size h = go (planOk (planRead b .plan) && storeOk (planRead b .plan) size) (has-number _ h)
+open-refused p size h = go (planOk p && storeOk p size) (has-number _ h)
   where
     opened : Bool → ReceiverOpened
-    opened t = cond t (record { number = 0; receiver = openedReceiver (planRead b .plan) size }) (record { number = 1; receiver = closedReceiver })
+    opened t = cond t (record { number = 0; receiver = openedReceiver p size }) (record { number = 1; receiver = closedReceiver })
 
     go : (t : Bool) → (opened t .number ≡ 0 → ⊥) → opened t .receiver ≡ closedReceiver
     go true some = absurd (some refl)

@@ -20,6 +20,30 @@ use Rattle.stage.specs.declared.CodedTake.{CodedTake}
 use Rattle.stage.specs.declared.StageRun.{StageRun}
 use Rattle.stage.specs.declared.CodedRun.{CodedRun}
 
+-- what C is told of a run
+abbrev pub stageRun : TakesResult → StageRun
+stageRun t = record { why = endedWord (t .ended); taken = t .taken; bytes = t .bytes }
+
+-- a word as C reads it: what it was, from bit 4 to bit 8, and what stands above; its line is `lineIn` of `answers`
+abbrev pub kindIn : ℕ → ℕ
+kindIn w = w / 16 % 32
+
+abbrev pub valueIn : ℕ → ℕ
+valueIn w = w / 512
+
+unfoldable pub readTaken : ℕ → Taken
+readTaken w =
+    cond (refusedIn w) (Refused (numberIn w))
+    (cond (eqb (kindIn w) 0) (Data (lineIn w) (valueIn w))
+    (cond (eqb (kindIn w) 1) (Missing (lineIn w) (valueIn w))
+    (cond (eqb (kindIn w) 2) (Behind (lineIn w)) (Waiting (lineIn w)))))
+
+-- why a run ended, as C reads it
+unfoldable pub readEnded : ℕ → Ended
+readEnded w = cond (refusedIn w) (ended.Refused (numberIn w)) (cond (eqb (kindIn w) 4) ended.Full (ended.Waiting (lineIn w)))
+
+-- ---- what the steps inside the calls answer; the calls' contracts cite what they call
+
 -- a receiver opened on the plan of a record
 abbrev pub openFrom : List ℕ → ℕ → ReceiverOpened
 openFrom bytes size =
@@ -41,26 +65,5 @@ abbrev pub codedTake : Receiver → List ℕ → List ℕ → CodedTake
 codedTake r store out = record { word = takenWord (takeOf r store out .result .answer); next = takeOf r store out .result .next }
 
 -- what C is told of a run, and the next state beside it
-abbrev pub stageRun : TakesResult → StageRun
-stageRun t = record { why = endedWord (t .ended); taken = t .taken; bytes = t .bytes }
-
 abbrev pub codedRun : TakesResult → CodedRun
 codedRun t = record { run = stageRun t; next = t .next }
-
--- a word as C reads it: what it was, from bit 4 to bit 8, and what stands above; its line is `lineIn` of `answers`
-abbrev pub kindIn : ℕ → ℕ
-kindIn w = w / 16 % 32
-
-abbrev pub valueIn : ℕ → ℕ
-valueIn w = w / 512
-
-unfoldable pub readTaken : ℕ → Taken
-readTaken w =
-    cond (refusedIn w) (Refused (numberIn w))
-    (cond (eqb (kindIn w) 0) (Data (lineIn w) (valueIn w))
-    (cond (eqb (kindIn w) 1) (Missing (lineIn w) (valueIn w))
-    (cond (eqb (kindIn w) 2) (Behind (lineIn w)) (Waiting (lineIn w)))))
-
--- why a run ended, as C reads it
-unfoldable pub readEnded : ℕ → Ended
-readEnded w = cond (refusedIn w) (ended.Refused (numberIn w)) (cond (eqb (kindIn w) 4) ended.Full (ended.Waiting (lineIn w)))

@@ -5,6 +5,10 @@ use receiving::Arrived;
 use receiving::Receiver;
 use receiving::ReceiverOpened;
 ghost use mathlib.Core.Path.{_≡_};
+ghost use Rattle.answers.specs.Answers.{told};
+ghost use Rattle.plan_record.specs.Record.{planRead};
+ghost use Rattle.receiving.specs.Receiver.{openReceiver};
+ghost use Rattle.receiving.specs.Arriving.{dataArrival, markerArrival};
 ghost use Rattle.receiving.specs.Taking.{takeOf};
 ghost use Rattle.receiving.specs.Takes.{takesOf};
 ghost use Rattle.taking.specs.Words.{takenWord};
@@ -26,7 +30,8 @@ fn open_from(bytes: &[u8], size: u32) -> ReceiverOpened
 // state.
 #[no_mangle]
 pub extern "C" fn stage_open(r: &mut Receiver, bytes: &[u8], size: u32) -> u32
-    ensures { λ n. ⌜ (n ≡ openFrom (now (bytes .entry)) size .number) × (now (r .exit) ≡ openFrom (now (bytes .entry)) size .receiver) ⌝ }
+    ensures { λ n. ⌜ (n ≡ told (openReceiver (planRead (now (bytes .entry)) .plan) size .number))
+        × (now (r .exit) ≡ openReceiver (planRead (now (bytes .entry)) .plan) size .receiver) ⌝ }
 {
     let o = open_from(bytes, size);
     *r = o.receiver;
@@ -46,9 +51,9 @@ fn told_data(r: Receiver, line: u32, bytes: &[u8], store: &mut [u8]) -> Arrived
 // Data that came on a line: 0 where it is stored, or 256 plus the number of the refusal.
 #[no_mangle]
 pub extern "C" fn stage_data(r: &mut Receiver, line: u32, bytes: &[u8], store: &mut [u8]) -> u32
-    ensures { λ n. ⌜ (n ≡ dataTold (now (r .entry)) line (now (bytes .entry)) (now (store .entry)) .arrived .number)
-        × (now (r .exit) ≡ dataTold (now (r .entry)) line (now (bytes .entry)) (now (store .entry)) .arrived .next)
-        × (now (store .exit) ≡ dataTold (now (r .entry)) line (now (bytes .entry)) (now (store .entry)) .store) ⌝ }
+    ensures { λ n. ⌜ (n ≡ told (dataArrival (now (r .entry)) line (now (bytes .entry)) (now (store .entry)) .arrived .number))
+        × (now (r .exit) ≡ dataArrival (now (r .entry)) line (now (bytes .entry)) (now (store .entry)) .arrived .next)
+        × (now (store .exit) ≡ dataArrival (now (r .entry)) line (now (bytes .entry)) (now (store .entry)) .store) ⌝ }
 {
     let a = told_data(*r, line, bytes, store);
     *r = a.next;
@@ -68,9 +73,9 @@ fn told_marker(r: Receiver, line: u32, bytes: &[u8], store: &mut [u8]) -> Arrive
 // A marker that came on a line: 0 where it is stored, or 256 plus the number of the refusal.
 #[no_mangle]
 pub extern "C" fn stage_marker(r: &mut Receiver, line: u32, bytes: &[u8], store: &mut [u8]) -> u32
-    ensures { λ n. ⌜ (n ≡ markerTold (now (r .entry)) line (now (bytes .entry)) (now (store .entry)) .arrived .number)
-        × (now (r .exit) ≡ markerTold (now (r .entry)) line (now (bytes .entry)) (now (store .entry)) .arrived .next)
-        × (now (store .exit) ≡ markerTold (now (r .entry)) line (now (bytes .entry)) (now (store .entry)) .store) ⌝ }
+    ensures { λ n. ⌜ (n ≡ told (markerArrival (now (r .entry)) line (now (bytes .entry)) (now (store .entry)) .arrived .number))
+        × (now (r .exit) ≡ markerArrival (now (r .entry)) line (now (bytes .entry)) (now (store .entry)) .arrived .next)
+        × (now (store .exit) ≡ markerArrival (now (r .entry)) line (now (bytes .entry)) (now (store .entry)) .store) ⌝ }
 {
     let a = told_marker(*r, line, bytes, store);
     *r = a.next;
