@@ -1,5 +1,7 @@
 // The one rule by which C is answered: 256 plus the number for a refusal. The definitions are in specs/Answers.antt; include/starkvitne.h is the
 // other side.
+#![tactic(auto)]
+
 ghost use Rattle.std.specs.Prelude.{◌≡◌, ◌%◌, ◌^◌};
 ghost use Rattle.answers.specs.Answers as answers;
 

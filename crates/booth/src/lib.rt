@@ -1,6 +1,8 @@
 // What the booth's driver, written in C, sees: the readers and writers of numbers, plans and markers, on numbers and byte slices, and the sender that
 // it holds for each bundle. Each export calls the proved function and turns its answer into one number, by the rule of the crate `answers`;
 // include/booth.h is the other side. The definitions are in specs/Exports.antt.
+#![tactic(auto)]
+
 ghost use Rattle.std.specs.Prelude.{◌≡◌, ◌<◌, ◌^◌};
 ghost use Rattle.numbers.specs.Coding.{reading_of, coded};
 ghost use Rattle.numbers.specs.Writing.{written};

@@ -1,5 +1,7 @@
 // Both ends together: what the demands promise of every history of calls. Definitions in specs/, theorems in proofs/; it has no code:
 // `promised` carries the theorems as a contract.
+#![tactic(auto)]
+
 ghost use Rattle.std.specs.Prelude.{ℕ, List};
 ghost use Rattle.plan.specs.declared.Plan.{Plan};
 ghost use Rattle.bundle.specs.AnyState.{RefusedChangesNothing, ValidStaysValid};

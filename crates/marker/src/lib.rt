@@ -1,6 +1,8 @@
 // The marker record: a line's number, and its round and counter as the sender had them. The layout by itself is read and
 // written by `read_record` and `write_record`; the standalone calls add the ranges that hold for any plan.
 // The definitions are in specs/Marker.antt.
+#![tactic(auto)]
+
 ghost use Rattle.std.specs.Prelude.{◌≡◌};
 ghost use Rattle.numbers.specs.Writing.{written};
 ghost use Rattle.marker.specs.Marker.{marker_bytes, record_read, judge, read_number, marker_read, marker_written};

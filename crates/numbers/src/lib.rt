@@ -1,5 +1,7 @@
 // Numbers on the wire: unsigned, low seven bits first, the top bit of a byte set when another follows, shortest form only,
 // below 2^32. Every record of the bundle is a row of them. The definitions are in specs/Coding.antt and specs/Writing.antt.
+#![tactic(auto)]
+
 ghost use Rattle.std.specs.Prelude.{◌≡◌, ◌+◌, ◌^◌, ◌≤◌, ◌<◌, length, ltb};
 ghost use Rattle.std.proofs.lemmas.List.Edits.{sets};
 ghost use Rattle.numbers.specs.Checks.{in_range};

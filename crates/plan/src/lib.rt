@@ -1,5 +1,7 @@
 // The plan that both ends agree on: its limits, the check of it, and what a packet is charged on a line.
 // The definitions are in specs/: Limits and Plan.
+#![tactic(auto)]
+
 ghost use Rattle.std.specs.Prelude.{◌≡◌, ◌≤◌};
 ghost use Rattle.numbers.specs.Checks.{all_below};
 ghost use Rattle.plan.specs.Limits.{least_lines, most_lines, least_max, most_max, most_quantum, least_interval, most_interval, item_head, most_store};

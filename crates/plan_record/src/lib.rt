@@ -1,4 +1,6 @@
 // The plan's record, as it is pasted at both ends: reading and writing it. The definitions are in specs/Record.antt.
+#![tactic(auto)]
+
 ghost use Rattle.std.specs.Prelude.{◌≡◌, ◌≤◌, ◌∷◌};
 ghost use Rattle.numbers.specs.Coding.{reading_of};
 ghost use Rattle.plan.specs.Limits.{most_lines};

@@ -1,5 +1,7 @@
 // Plays a recording through the two ends, and prints for each step what was answered and digests of all that it left. What the second program
 // says of each step stands in the file `stdout`, and the gate holds what is printed here to it.
+#![tactic(auto)]
+
 mod calls;
 mod digest;
 mod figures;

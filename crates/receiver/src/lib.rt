@@ -1,5 +1,7 @@
 // The stage's end, from its opening to what comes in: a receiver by value over a store that is lent to each call. An arrival takes the state
 // and hands back the next one; a refusal hands back the state it was given and changes no lent byte. The definitions are `receiving`'s.
+#![tactic(auto)]
+
 ghost use Rattle.std.specs.Prelude.{◌≡◌, true, ◌*◌, ◌≤◌, ◌<◌, ltb, eqb};
 ghost use Rattle.numbers.specs.Checks.{check, in_range};
 ghost use Rattle.plan.specs.Limits.{most_lines};

@@ -1,5 +1,7 @@
 // The stage's end: the receiver's state in two halves, what is stored and whose turn it is, and what its calls answer. The definitions of the
 // calls are in specs/: Receiver, Arriving, Taking, and Takes for runs; the code is in the crates `receiver` and `taking`.
+#![tactic(auto)]
+
 use plan::Plan;
 
 // What is stored. Line i owns the `size` bytes of the store from i times `size`, and holds `used` of them from `heads` on, round the end.

@@ -1,5 +1,7 @@
 // A recording is numbers as they are on the wire, and rows of bytes, each behind its length. Whoever plays one asks for what stands at a place, and
 // goes on from the place after it. The definitions are in specs/Recording.antt.
+#![tactic(auto)]
+
 ghost use Rattle.std.specs.Prelude.{◌≡◌};
 ghost use Rattle.recording.specs.Recording.{number_at, no_part, part_at};
 

@@ -1,5 +1,7 @@
 // What a marker tells the line that it came on: whether it can be a marker there, and how many bytes are missing before it.
 // The definitions are in specs/Report.antt.
+#![tactic(auto)]
+
 ghost use Rattle.std.specs.Prelude.{◌≡◌, ◌+◌, ◌-◌, ◌*◌, ◌<◌};
 ghost use Rattle.marker.specs.Marker.{judge};
 ghost use Rattle.report.specs.Report.{on_number, marker_on, ahead, report_of};

@@ -1,5 +1,7 @@
 // A line's ring: items go in behind what it holds, and are read at its head. The position of each byte is worked out by itself, modulo
 // the ring's length. Any place and any count will do: they are taken as the definitions say, in specs/Ring.antt.
+#![tactic(auto)]
+
 ghost use Rattle.std.specs.Prelude.{◌≡◌, cond, ◌≤◌, ◌<◌, min, length};
 ghost use Rattle.numbers.specs.Writing.{written};
 ghost use Rattle.ring.specs.Ring.{from_ring, into_ring, onto, held, room_for, stored, front_of, in_front};

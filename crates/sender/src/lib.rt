@@ -1,5 +1,7 @@
 // The booth's end: a sender by value. Each call takes the state and hands back the next one; a refusal hands back the state it was
 // given. The definitions are `sending`'s.
+#![tactic(auto)]
+
 ghost use Rattle.std.specs.Prelude.{◌≡◌, ◌≤◌};
 ghost use Rattle.plan.specs.Plan.{at};
 ghost use Rattle.sending.specs.Sender.{sender_ok, closed_sender, open_sender, not_sent, went, send_of, marker_from};

@@ -1,5 +1,7 @@
 // The booth's end: the sender's state, and what its calls answer. The definitions of the calls are in specs/Sender.antt, the code in the crate
 // `sender`.
+#![tactic(auto)]
+
 use plan::Plan;
 
 // Entries for lines from the plan's `lines` on are ignored and kept.

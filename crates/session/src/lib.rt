@@ -1,5 +1,7 @@
 // The session on paper: a plan and packet lengths as text, a table of the sender's choices as text. Bytes go in as they come, in pieces
 // of any size; one line of text makes one line of table. The definitions are in specs/: Session, by bytes; Lines, by lines.
+#![tactic(auto)]
+
 ghost use Rattle.std.specs.Prelude.{◌≡◌, ◌++◌, ◌+◌, ◌≤◌, length, drop};
 ghost use Rattle.text.specs.Rows.{row_of};
 ghost use Rattle.table.specs.Table.{most_text};

@@ -1,6 +1,8 @@
 // What the stage's driver, written in C, calls: the receiver that it holds. Each export copies the state out, calls one proved function, stores
 // the next state back and answers one number by the rule of the crate `answers`, a run of takes three; include/stage.h is the other side. The
 // definitions are in specs/Exports.antt.
+#![tactic(auto)]
+
 ghost use Rattle.std.specs.Prelude.{◌≡◌};
 ghost use Rattle.answers.specs.Answers.{told};
 ghost use Rattle.plan_record.specs.Record.{plan_read};

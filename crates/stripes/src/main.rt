@@ -1,5 +1,7 @@
 // The session on paper as a program: standard input, of any length, through a session, to standard output. Everything that matters is in
 // the crate session; the memory is the same for any length of text.
+#![tactic(auto)]
+
 use libc::{STDIN_FILENO, STDOUT_FILENO};
 use session::Session;
 

@@ -1,5 +1,7 @@
 // A line of table: the numbers of a line of text in, the sender's choice out as text. The definitions are in specs/: Table; Steps for what
 // a row of numbers makes.
+#![tactic(auto)]
+
 ghost use Rattle.std.specs.Prelude.{◌≡◌, ◌+◌, ◌<◌, ◌≤◌, length, if◌then◌else◌, slice_index};
 ghost use Rattle.plan.specs.Limits.{most_lines, most_max, most_quantum};
 ghost use Rattle.sending.specs.declared.Sent.TheVariants.{Went};

@@ -1,5 +1,7 @@
 // The stage's end, from its store to what is handed out: takes, one by one or in a run, by value over a store that is lent to each call. A refusal
 // and a wait hand back the state that they were given. The definitions are `receiving`'s.
+#![tactic(auto)]
+
 ghost use Rattle.std.specs.Prelude.{◌≡◌, ◌+◌, ◌%◌, ◌^◌, ◌<◌, ◌≤◌, true, [], length};
 ghost use Rattle.plan.specs.Limits.{item_head, most_lines, most_store};
 ghost use Rattle.plan.specs.Plan.{at};

@@ -1,5 +1,7 @@
 // Numbers as text, both ways: words and decimal numbers put into an output, and the numbers of a line of text read into a row. The
 // definitions are in specs/: Text, Rows, Printing.
+#![tactic(auto)]
+
 ghost use Rattle.std.specs.Prelude.{◌≡◌};
 ghost use Rattle.text.specs.Text.{is_digit, most_digits, said, all_digits, decimal};
 ghost use Rattle.text.specs.Rows.{most_numbers, no_row, row_of};
