@@ -50,15 +50,15 @@ impl Plan {
 
 // The plan's limits are the definitions' numbers.
 fn limits()
-    ensures* do_value { do ⌜ (← (⟦Plan::LEAST_LINES⟧).entry) ≡ least_lines ⌝ }
-    ensures* do_value_2 { do ⌜ (← (⟦Plan::MOST_LINES⟧).entry) ≡ most_lines ⌝ }
-    ensures* do_value_3 { do ⌜ (← (⟦Plan::LEAST_MAX⟧).entry) ≡ least_max ⌝ }
-    ensures* do_value_4 { do ⌜ (← (⟦Plan::MOST_MAX⟧).entry) ≡ most_max ⌝ }
-    ensures* do_value_5 { do ⌜ (← (⟦Plan::MOST_QUANTUM⟧).entry) ≡ most_quantum ⌝ }
-    ensures* do_value_6 { do ⌜ (← (⟦Plan::LEAST_INTERVAL⟧).entry) ≡ least_interval ⌝ }
-    ensures* do_value_7 { do ⌜ (← (⟦Plan::MOST_INTERVAL⟧).entry) ≡ most_interval ⌝ }
-    ensures* do_value_8 { do ⌜ (← (⟦Plan::ITEM_HEAD⟧).entry) ≡ item_head ⌝ }
-    ensures* do_value_9 { do ⌜ (← (⟦Plan::MOST_STORE⟧).entry) ≡ most_store ⌝ }
+    ensures least_lines { Plan.LEAST_LINES ≡ least_lines }
+    ensures most_lines { Plan.MOST_LINES ≡ most_lines }
+    ensures least_max { Plan.LEAST_MAX ≡ least_max }
+    ensures most_max { Plan.MOST_MAX ≡ most_max }
+    ensures most_quantum { Plan.MOST_QUANTUM ≡ most_quantum }
+    ensures least_interval { Plan.LEAST_INTERVAL ≡ least_interval }
+    ensures most_interval { Plan.MOST_INTERVAL ≡ most_interval }
+    ensures item_head { Plan.ITEM_HEAD ≡ item_head }
+    ensures most_store { Plan.MOST_STORE ≡ most_store }
 {}
 
 // No early way out of the loop: a plan is checked at every call, and nearly always good.

@@ -46,8 +46,8 @@ const TOO_LONG: usize = Session::MOST_LINE + 1;
 
 // The limits are the definitions' numbers.
 fn limits()
-    ensures* do_value { do ⌜ (← (⟦Session::MOST_LINE⟧).entry) ≡ most_line ⌝ }
-    ensures* do_value_2 { do ⌜ (← (⟦Session::MOST_TEXT⟧).entry) ≡ most_text ⌝ }
+    ensures most_line { Session.MOST_LINE ≡ most_line }
+    ensures most_text { Session.MOST_TEXT ≡ most_text }
 {}
 
 // ---- a line

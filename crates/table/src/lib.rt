@@ -50,8 +50,8 @@ const PLAN_NUMBERS: usize = BEFORE_QUANTA + Plan::MOST_LINES;
 
 // The limits are the definitions' numbers, and a row holds the longest plan.
 fn limits()
-    ensures* do_value { do ⌜ (← (⟦Table::MOST_TEXT⟧).entry) ≡ most_text ⌝ }
-    ensures* do_value_2 { do ⌜ (← (⟦Row::MOST_NUMBERS⟧).entry) ≡ (← (⟦PLAN_NUMBERS⟧).entry) ⌝ }
+    ensures most_text { Table.MOST_TEXT ≡ most_text }
+    ensures most_numbers { Row.MOST_NUMBERS ≡ PLAN_NUMBERS }
 {}
 
 // ---- the text of a line of table

@@ -34,9 +34,9 @@ const ALL_DIGITS: usize = 20;
 
 // The limits are the definitions' numbers.
 fn limits()
-    ensures* do_value { do ⌜ (← (⟦Row::MOST_NUMBERS⟧).entry) ≡ most_numbers ⌝ }
-    ensures* do_value_2 { do ⌜ (← (⟦Row::MOST_DIGITS⟧).entry) ≡ most_digits ⌝ }
-    ensures all_digits_value { ALL_DIGITS ≡ all_digits }
+    ensures most_numbers { Row.MOST_NUMBERS ≡ most_numbers }
+    ensures most_digits { Row.MOST_DIGITS ≡ most_digits }
+    ensures all_digits { ALL_DIGITS ≡ all_digits }
 {}
 
 // ---- text into an output. What does not fit whole is not written, and the place stays as it was.
