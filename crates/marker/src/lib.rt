@@ -10,7 +10,7 @@ ghost use Rattle.marker.specs.Marker.{marker_bytes, record_read, judge, read_num
 use numbers::{Reading, Written};
 use plan::Plan;
 
-#[derive(Drop)]
+#[derive(Clone, Copy)]
 pub struct Marker {
     pub line: u32,
     pub round: u32,
@@ -18,7 +18,7 @@ pub struct Marker {
 }
 
 // What reading a marker answers: the marker, or the number of the refusal.
-#[derive(Drop)]
+#[derive(Clone, Copy)]
 pub enum MarkerRead {
     Whole(Marker),
     Refused(u32),

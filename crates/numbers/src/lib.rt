@@ -9,14 +9,14 @@ ghost use Rattle.numbers.specs.Coding.{reading_of, coded, row_bytes};
 ghost use Rattle.numbers.specs.Writing.{written};
 
 // What a reading yields: a number and the place after it, or nothing.
-#[derive(Drop)]
+#[derive(Clone, Copy)]
 pub enum Reading {
     Number(u32, usize),
     Nothing,
 }
 
 // What a writer answers: the length written, or the number of the refusal.
-#[derive(Drop)]
+#[derive(Clone, Copy)]
 pub enum Written {
     Length(usize),
     Refused(u32),

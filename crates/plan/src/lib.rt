@@ -9,7 +9,7 @@ ghost use Rattle.plan.specs.Plan.{at, no_plan, quantum_ok, plan_ok, store_ok, co
 
 // Lines are numbered from 0 in the order of the quanta, never by name. Entries for lines from `lines` on are ignored and kept.
 #[repr(C)]
-#[derive(Drop)]
+#[derive(Clone, Copy)]
 pub struct Plan {
     pub lines: u32,
     pub max: u32,
@@ -18,7 +18,7 @@ pub struct Plan {
 }
 
 // What one line needs of the plan: its quantum, and the largest packet.
-#[derive(Drop)]
+#[derive(Clone, Copy)]
 pub struct LinePlan {
     pub quantum: u32,
     pub largest: u32,

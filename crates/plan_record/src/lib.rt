@@ -10,7 +10,7 @@ use numbers::{Reading, Written};
 use plan::Plan;
 
 // What reading a plan record answers: 0 and the plan, or the number of the refusal and an all-zero plan.
-#[derive(Drop)]
+#[derive(Clone, Copy)]
 pub struct PlanRead {
     pub number: u32,
     pub plan: Plan,

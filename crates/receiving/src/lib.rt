@@ -6,7 +6,7 @@ use plan::Plan;
 
 // What is stored. Line i owns the `size` bytes of the store from i times `size`, and holds `used` of them from `heads` on, round the end.
 #[repr(C)]
-#[derive(Drop)]
+#[derive(Clone, Copy)]
 pub struct Rings {
     pub size: u32,
     pub heads: [u32; Plan::MOST_LINES],
@@ -15,7 +15,7 @@ pub struct Rings {
 
 // Whose turn it is: the current round, and where each line stands.
 #[repr(C)]
-#[derive(Drop)]
+#[derive(Clone, Copy)]
 pub struct Turns {
     pub round: u32,
     pub rounds: [u32; Plan::MOST_LINES],
@@ -24,7 +24,7 @@ pub struct Turns {
 
 // Entries for lines from the plan's `lines` on are ignored and kept.
 #[repr(C)]
-#[derive(Drop)]
+#[derive(Clone, Copy)]
 pub struct Receiver {
     pub plan: Plan,
     pub rings: Rings,
@@ -32,33 +32,33 @@ pub struct Receiver {
 }
 
 // One line's figures, of each half.
-#[derive(Drop)]
+#[derive(Clone, Copy)]
 pub struct Held {
     pub head: u32,
     pub used: u32,
 }
 
-#[derive(Drop)]
+#[derive(Clone, Copy)]
 pub struct Turn {
     pub round: u32,
     pub counter: u32,
 }
 
-#[derive(Drop)]
+#[derive(Clone, Copy)]
 pub struct Line {
     pub held: Held,
     pub turn: Turn,
 }
 
 // What opening answers: 0 and the receiver, or 1 and the closed state, all zeros.
-#[derive(Drop)]
+#[derive(Clone, Copy)]
 pub struct ReceiverOpened {
     pub number: u32,
     pub receiver: Receiver,
 }
 
 // What an arrival answers: 0 where it is stored, or the number of the refusal.
-#[derive(Drop)]
+#[derive(Clone, Copy)]
 pub struct Arrived {
     pub number: u32,
     pub next: Receiver,
@@ -66,7 +66,7 @@ pub struct Arrived {
 
 // What a take answers, each with its line: the queue is empty; a packet of so many bytes; a marker, before which so many bytes are missing;
 // a marker that its line has gone past (11). Or the number of the refusal.
-#[derive(Drop)]
+#[derive(Clone, Copy)]
 pub enum Taken {
     Waiting(u32),
     Data(u32, u32),
@@ -75,21 +75,21 @@ pub enum Taken {
     Refused(u32),
 }
 
-#[derive(Drop)]
+#[derive(Clone, Copy)]
 pub struct TakeResult {
     pub answer: Taken,
     pub next: Receiver,
 }
 
 // What a take of one line answers, and the line's figures after it: as they were, where nothing moved.
-#[derive(Drop)]
+#[derive(Clone, Copy)]
 pub struct Step {
     pub answer: Taken,
     pub line: Line,
 }
 
 // How a run of takes ended: the log is full, a line is waited for, or a take was refused.
-#[derive(Drop)]
+#[derive(Clone, Copy)]
 pub enum Ended {
     Full,
     Waiting(u32),
@@ -97,7 +97,7 @@ pub enum Ended {
 }
 
 // What a run of takes answers: how it ended, how many takes there were and how many bytes they wrote.
-#[derive(Drop)]
+#[derive(Clone, Copy)]
 pub struct TakesResult {
     pub ended: Ended,
     pub taken: usize,

@@ -8,7 +8,7 @@ ghost use Rattle.recording.specs.Recording.{number_at, no_part, part_at};
 use numbers::Reading;
 
 // Bytes of a recording, from a place to another.
-#[derive(Drop)]
+#[derive(Clone, Copy)]
 pub struct Part {
     pub from: usize,
     pub end: usize,

@@ -9,7 +9,7 @@ ghost use Rattle.report.specs.Report.{on_number, marker_on, ahead, report_of};
 use marker::{Marker, MarkerRead};
 
 // The bytes missing before a marker; or the line has gone past it.
-#[derive(Drop)]
+#[derive(Clone, Copy)]
 pub enum Report {
     Missing(u64),
     Behind,

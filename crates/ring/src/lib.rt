@@ -10,7 +10,7 @@ use numbers::Written;
 use plan::Plan;
 
 // What stands at a ring's head: an item's kind and length, or nothing that can be one.
-#[derive(Drop)]
+#[derive(Clone, Copy)]
 pub enum Front {
     Item(u8, usize),
     Nothing,

@@ -6,7 +6,7 @@ use plan::Plan;
 
 // Entries for lines from the plan's `lines` on are ignored and kept.
 #[repr(C)]
-#[derive(Drop)]
+#[derive(Clone, Copy)]
 pub struct Sender {
     pub plan: Plan,
     pub line: u32,
@@ -16,20 +16,20 @@ pub struct Sender {
 }
 
 // What opening answers: 0 and the sender, or 1 and the closed state, all zeros.
-#[derive(Drop)]
+#[derive(Clone, Copy)]
 pub struct SenderOpened {
     pub number: u32,
     pub sender: Sender,
 }
 
 // What a send answers: the line the packet goes to and whether markers are due, or the number of the refusal.
-#[derive(Drop)]
+#[derive(Clone, Copy)]
 pub enum Sent {
     Went(u32, bool),
     Refused(u32),
 }
 
-#[derive(Drop)]
+#[derive(Clone, Copy)]
 pub struct SendResult {
     pub answer: Sent,
     pub next: Sender,

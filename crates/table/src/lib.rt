@@ -15,7 +15,7 @@ use sending::{Sender, Sent};
 use text::Row;
 
 // The first line is the plan, every other a packet, and a refusal ends the table.
-#[derive(Drop)]
+#[derive(Clone, Copy)]
 pub enum Stage {
     PlanToCome,
     Packets,
@@ -23,7 +23,7 @@ pub enum Stage {
 }
 
 // What is kept from line to line.
-#[derive(Drop)]
+#[derive(Clone, Copy)]
 pub struct Table {
     pub stage: Stage,
     pub sender: Sender,
@@ -37,7 +37,7 @@ impl Table {
 }
 
 // What a line made: the next table, and the place after its text in the output.
-#[derive(Drop)]
+#[derive(Clone, Copy)]
 pub struct Step {
     pub table: Table,
     pub at: usize,

@@ -8,7 +8,7 @@ ghost use Rattle.text.specs.Rows.{most_numbers, no_row, row_of};
 ghost use Rattle.text.specs.Printing.{spaced, EndsSpaced, PutWhereFits};
 
 // The numbers of a line of text, and zeros behind them; not good: bad text, or more numbers than a row holds.
-#[derive(Drop)]
+#[derive(Clone, Copy)]
 pub struct Row {
     pub good: bool,
     pub count: usize,
@@ -23,7 +23,7 @@ impl Row {
 }
 
 // The decimal digits of a number, with a space behind them: what stands from `from` on.
-#[derive(Drop)]
+#[derive(Clone, Copy)]
 struct Spaced {
     from: usize,
     bytes: [u8; ALL_DIGITS + 1],
