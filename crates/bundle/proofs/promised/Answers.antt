@@ -5,11 +5,7 @@ use Rattle.bundle.proofs.Running.{run_is_takes}
 use Rattle.bundle.proofs.Booth as booth
 use Rattle.bundle.proofs.Queues as queues
 use Rattle.bundle.proofs.Proved.{promises}
-use Rattle.bundle.proofs.promised.Statement.{statement}
-use Rattle.bundle.proofs.promised.Tie as tie
+use Rattle.bundle.proofs.promised.Goals as goal
 
-returns : tie.Need-returns
+pub returns : goal.returns
 returns c = (refused_changes_nothing, valid_stays_valid, run_is_takes, booth.every_history, queues.every_history, promises)
-
-pub promised-spec : {M : Type 1} → statement M
-promised-spec = tie.close (tie.spec returns)
