@@ -17,14 +17,14 @@ pub returns-then-number-ne0 : goal.returns-then-number-ne0
 returns-then-number-ne0 c =
     let a = c.args in
     rw c.not_stored.ensures
-    (refused a.r a.line a.store.now _ c.placed-number.ensures c.if-number-ne0.true a.own_val a.kind a.bytes.now)
+    (refused a.r a.line a.store.now _ c.placed-number.ensures c.if-number-ne0.true a.own a.kind a.bytes.now)
 
 pub returns-then-own-ne0 : goal.returns-then-own-ne0
 returns-then-own-ne0 c =
     let a = c.args in
     let f = first (goal.at.returns-then-own-ne0 c).Else-number-ne0 in
     rw c.not_stored-then-own-ne0.ensures
-    (own_refused a.own_val a.r a.line a.kind a.bytes.now a.store.now f.0 f.1 f.2 a.own_val refl c.if-own-ne0.true)
+    (own_refused a.own a.r a.line a.kind a.bytes.now a.store.now f.0 f.1 f.2 a.own refl c.if-own-ne0.true)
 
 pub put-requires : goal.put-requires
 put-requires c = first (goal.at.put-requires c).Else-number-ne0
@@ -33,4 +33,4 @@ pub returns : goal.returns
 returns c =
     let a = c.args in
     let f = first (goal.at.returns c).Else-number-ne0 in
-    rw (← stored a.own_val a.r a.line a.kind a.bytes.now a.store.now f.0 f.1 f.2 c.if-own-ne0.false) c.put.ensures
+    rw (← stored a.own a.r a.line a.kind a.bytes.now a.store.now f.0 f.1 f.2 c.if-own-ne0.false) c.put.ensures

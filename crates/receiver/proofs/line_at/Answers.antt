@@ -1,12 +1,9 @@
 -- `receiver::line_at` meets its contract: what is left of the lines, looked through from here, gives the answer. Assumes nothing.
-use Rattle.std.proofs.Common.{Bool, List, add-one, ap, arith, eq-eqb, eqb, ne_eqb, suc, sym, ℕ, ◌+◌, ◌-◌, ◌<◌, ◌∙◌, ◌≡◌}
-use Rattle.plan.specs.Plan.{at}
+use Rattle.std.proofs.Common.{add-one, ap, arith, eq-eqb, ne_eqb, suc, sym, ℕ, ◌+◌, ◌-◌, ◌<◌, ◌∙◌, ◌≡◌}
 use Rattle.receiving.specs.Receiver.{first_from, line_at}
 use Rattle.receiving.proofs.Laws.{first_here, first_on, first_none}
+use Rattle.receiver.proofs.line_at.Invariants.{is_at}
 use Rattle.receiver.proofs.line_at.Goals as goal
-
-abbrev is_at : List ℕ → ℕ → ℕ → Bool
-is_at rounds round j = eqb (at rounds j) round
 
 one_left : (n i : ℕ) → i < n → n - i ≡ suc (n - (i + 1))
 one_left n i h = omega arith

@@ -9,18 +9,23 @@ use Rattle.receiving.specs.Arriving.{place_of}
 use Rattle.receiving.proofs.Arrivals.{no_room, item_ends, is_stored}
 use Rattle.receiving.proofs.Stores.{Place, place}
 use Rattle.receiver.proofs.put.Goals as goal
-use Rattle.receiver.proofs.put.Goals.{Else-not-store, Start}
+use Rattle.receiver.proofs.put.Goals.{After-rings_bytes-start, Else-not-store, Start}
 
 here : (c : Start) → Place c.args.r c.args.store.now c.args.line
 here c = place c.args.r c.args.store.now c.args.line c.requires.0 c.requires.1 c.requires.2
 
+ring_ends : (c : After-rings_bytes-start) → let a = c.args in
+    c.rings_bytes-start.result + a.r.rings.size ≤ length a.store.now
+ring_ends c =
+    let here_here : Place c.args.r c.args.store.now c.args.line = place c.args.r c.args.store.now c.args.line c.requires.0 c.requires.1 c.requires.2 in
+    omega (arith, (here_here).ring_ends, c.rings_bytes-start.ensures)
+
 -- what is held with the new item is little
 little : (c : Else-not-store) → 
-    let a =
-    let here_here : Place c.args.r c.args.store.now c.args.line = place c.args.r c.args.store.now c.args.line c.requires.0 c.requires.1 c.requires.2 in
-    c.args in
+    let a = c.args in
     c.entry-held.result + item_head + length a.bytes.now ≤ most_store
 little c =
+    let here_here : Place c.args.r c.args.store.now c.args.line = place c.args.r c.args.store.now c.args.line c.requires.0 c.requires.1 c.requires.2 in
     let told = rw (c.entry-head.ensures, c.entry-held.ensures) at c.store.ensures in
     rw c.entry-held.ensures
     (item_ends c.args.r c.args.line c.args.kind c.args.bytes.now c.args.store.now (here_here) _ c.rings_bytes-start.ensures
@@ -42,7 +47,7 @@ own-head r i n = rw (set-get_or r.rings.heads i 0)
 pub overflow_add-end : goal.overflow_add-end
 overflow_add-end c =
     let h = here (goal.at.overflow_add-end c).Start in
-    omega (arith, ring_ends c, h.store_most)
+    omega (arith, ring_ends (goal.at.overflow_add-end c).After-rings_bytes-start, h.store_most)
 
 pub slice_bounds-store-end : goal.slice_bounds-store-end
 slice_bounds-store-end c = omega (arith, (here (goal.at.slice_bounds-store-end c).Start).ring_ends, c.rings_bytes-start.ensures)

@@ -6,17 +6,17 @@ use Rattle.table.specs.Table.{header}
 use Rattle.table.proofs.Making.{plan_unfit, plan_fit}
 use Rattle.table.proofs.plan_line.Goals as goal
 
-pub shape_of-out-then-not-fits : goal.shape_of-out-then-not-fits
-shape_of-out-then-not-fits c =
-    rw (plan_unfit c.args.t c.args.row c.plan_from-p.result c.«open».result c.plan_from-p.ensures c.«open».ensures (c.if-not-fits.true))
+pub returns-then-not-fits : goal.returns-then-not-fits
+returns-then-not-fits c =
+    rw (plan_unfit c.args.t c.args.row c.plan_from-p.result c.open-opened.result c.plan_from-p.ensures c.open-opened.ensures (c.if-not-fits.true))
     c.refuse.ensures
 
 pub returns : goal.returns
 returns c =
     let t = c.args.t in
     let put = fits_put header c.args.out.now c.args.at (omega arith) c.put_text-end.ensures in
-    rw (plan_fit t c.args.row c.plan_from-p.result c.«open».result c.plan_from-p.ensures c.«open».ensures (c.if-not-fits.false)) (
-      λ k. record { stage = Packets; sender = c.«open».result.sender; lines = c.wrapping_add_u64.ensures.value k; packets = t.packets },
+    rw (plan_fit t c.args.row c.plan_from-p.result c.open-opened.result c.plan_from-p.ensures c.open-opened.ensures (c.if-not-fits.false)) (
+      λ k. record { stage = Packets; sender = c.open-opened.result.sender; lines = c.wrapping_add_u64.ensures.value k; packets = t.packets },
       put.0,
       put.1,
       omega arith,

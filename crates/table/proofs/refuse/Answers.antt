@@ -13,7 +13,7 @@ pub returns : goal.returns
 unfolding refused_at
 returns c =
     let t = c.args.t in
-    let q = rw c.wrapping_add_u64-lines.ensures.value at c.Put-refused.ensures in (
+    let q = rw c.wrapping_add_u64-lines.ensures.value at c.put_refused-end.ensures in (
       λ k. record { stage = Ended; sender = t.sender; lines = c.wrapping_add_u64-lines.ensures.value k; packets = t.packets },
       q.0,
       q.1,

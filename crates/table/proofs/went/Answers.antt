@@ -1,5 +1,5 @@
 -- `table::went` meets its contract. Assumes nothing.
-use Rattle.std.proofs.Common.{Fits, arith, get_or, length, rules, w32, ◌<◌, ◌^◌, ◌≤◌}
+use Rattle.std.proofs.Common.{ℕ, Fits, arith, get_or, length, rules, w32, ◌<◌, ◌^◌, ◌≤◌}
 use Rattle.table.specs.declared.Stage.TheVariants.{Packets}
 use Rattle.table.specs.Table.{most_text, next, row}
 use Rattle.table.proofs.Printing.{row_size}
@@ -7,7 +7,7 @@ use Rattle.table.proofs.went.Goals as goal
 use Rattle.table.proofs.went.Goals.{Start}
 
 -- the row has room
-size : (c : Start) → number < 2 ^ 64 →
+size : (c : Start) (number : ℕ) → number < 2 ^ 64 →
     let a = c.args in
     length (row number a.n a.line (get_or a.t.sender.rounds a.line 0) (get_or a.t.sender.counters a.line 0) a.due) ≤ most_text
 size c number f =
