@@ -133,7 +133,7 @@ pub extern "C" fn stripes_copy_plan(s: &[u8], out: &mut [u8]) -> u32
 }
 
 // A send's answer as C gets it, and the next state.
-#[derive(Drop)]
+#[derive(Clone, Copy)]
 struct CodedSend {
     code: u32,
     next: Sender,

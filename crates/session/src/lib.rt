@@ -12,7 +12,7 @@ use table::{Stage, Step, Table};
 use text::Row;
 
 // What is kept from byte to byte: the open line, and how many bytes it has (TOO_LONG: more than are kept).
-#[derive(Drop)]
+#[derive(Clone, Copy)]
 pub struct Session {
     pub table: Table,
     pub kept: usize,
@@ -28,7 +28,7 @@ impl Session {
 }
 
 // What a piece of the text made: the next session, how many bytes were used, and how many were written.
-#[derive(Drop)]
+#[derive(Clone, Copy)]
 pub struct Fed {
     pub session: Session,
     pub used: usize,
@@ -36,7 +36,7 @@ pub struct Fed {
 }
 
 // What the end of the text made: whether there was room for a line of table, and how many bytes were written.
-#[derive(Drop)]
+#[derive(Clone, Copy)]
 pub struct Closed {
     pub done: bool,
     pub wrote: usize,

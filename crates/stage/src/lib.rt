@@ -84,7 +84,7 @@ pub extern "C" fn stage_marker(r: &mut Receiver, line: u32, bytes: &[u8], store:
 }
 
 // A take's word, and the next state.
-#[derive(Drop)]
+#[derive(Clone, Copy)]
 struct CodedTake {
     word: u64,
     next: Receiver,
@@ -117,7 +117,7 @@ pub extern "C" fn stage_take(r: &mut Receiver, store: &[u8], out: &mut [u8]) -> 
 // What a run of takes answers to C: a word that says why it ended, which is that of the take that stopped it unless the log is full; how many takes
 // there were, and how many bytes they wrote.
 #[repr(C)]
-#[derive(Drop)]
+#[derive(Clone, Copy)]
 pub struct StageRun {
     pub why: u64,
     pub taken: usize,
@@ -125,7 +125,7 @@ pub struct StageRun {
 }
 
 // That, and the next state.
-#[derive(Drop)]
+#[derive(Clone, Copy)]
 struct CodedRun {
     run: StageRun,
     next: Receiver,

@@ -6,7 +6,7 @@ use libc::{STDIN_FILENO, STDOUT_FILENO};
 use session::Session;
 
 // The session after some text, and whether more is to be read.
-#[derive(Drop)]
+#[derive(Clone, Copy)]
 struct Turn {
     session: Session,
     more: bool,
