@@ -10,30 +10,25 @@ same e = ap (λ (t : Taken). taken_word t % 2 ^ 64) (sym e)
 
 pub returns-in-Data : goal.returns-in-Data
 returns-in-Data c =
-    let g = c.answer-1.given in
-    let e : g.0.0 + 512 * g.0.1.0 ≡ (g.0.0 + 512 * g.0.1.0) % 2 ^ 64 = omega arith in
-    e ∙ same g.1
+    let e : c.in-Data.line + 512 * c.in-Data.n ≡ (c.in-Data.line + 512 * c.in-Data.n) % 2 ^ 64 = omega arith in
+    e ∙ same c.in-Data.is
 
 pub returns-in-Missing : goal.returns-in-Missing
 returns-in-Missing c =
-    let g = c.answer-in-Missing-1.given in
-    let e : (16 + g.0.0 + 512 * (g.0.1.0 % 36028797018963968)) % 2 ^ 64 ≡ (16 + g.0.0 + 512 * g.0.1.0) % 2 ^ 64 = omega arith in
-    c.wrapping_add_u64.ensures.value ∙ e ∙ same g.1
+    let e : (16 + c.in-Missing.line + 512 * (c.in-Missing.missing % 36028797018963968)) % 2 ^ 64 ≡ (16 + c.in-Missing.line + 512 * c.in-Missing.missing) % 2 ^ 64 = omega arith in
+    c.wrapping_add_u64.ensures.value ∙ e ∙ same c.in-Missing.is
 
 pub returns-in-Behind : goal.returns-in-Behind
 returns-in-Behind c =
-    let g = c.answer-in-Behind-1.given in
-    let e : 32 + g.0.0 ≡ (32 + g.0.0) % 2 ^ 64 = omega arith in
-    e ∙ same g.1
+    let e : 32 + c.in-Behind.line ≡ (32 + c.in-Behind.line) % 2 ^ 64 = omega arith in
+    e ∙ same c.in-Behind.is
 
 pub returns-in-Waiting : goal.returns-in-Waiting
 returns-in-Waiting c =
-    let g = c.answer-in-Waiting-1.given in
-    let e : 48 + g.0.0 ≡ (48 + g.0.0) % 2 ^ 64 = omega arith in
-    e ∙ same g.1
+    let e : 48 + c.in-Waiting.line ≡ (48 + c.in-Waiting.line) % 2 ^ 64 = omega arith in
+    e ∙ same c.in-Waiting.is
 
 pub returns-in-Refused : goal.returns-in-Refused
 returns-in-Refused c =
-    let g = c.answer-in-Refused-1.given in
-    let e : 256 + g.0.0 ≡ (256 + g.0.0) % 2 ^ 64 = omega arith in
-    e ∙ same g.1
+    let e : 256 + c.in-Refused.number ≡ (256 + c.in-Refused.number) % 2 ^ 64 = omega arith in
+    e ∙ same c.in-Refused.is
