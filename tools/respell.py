@@ -19,7 +19,11 @@ DECLARED = re.compile(r"(?m)^ *(abbrev |unfoldable )?(?:pub )?(?:record |data )?
 IMPORTED = re.compile(r"(?m)^(?:ghost )?use (\S+?)\.\{(.*?)\};?$")
 # Functions that a lemma's name may join by a dash.
 FUNCTIONS = {"length", "take", "drop", "append", "set", "sets", "get_or", "map", "sum", "replicate", "reverse", "coded", "count"}
-OWN_FILES = ("Proof.antt", "Answers.antt", "Invariants.antt")
+
+
+def walk(path):
+    """Whether a file is the proof of one function, with names that the prover made."""
+    return path.name == "Proof.antt"
 
 
 def files(pattern):
@@ -42,7 +46,7 @@ def declared():
     """The names that the specs and the lemma files declare, the fields and constructors among them."""
     found = set()
     for path in files("crates/*/specs/**/*.antt") + files("crates/*/proofs/**/*.antt"):
-        if path.name not in OWN_FILES:
+        if not walk(path):
             found |= {m.group(2) for m in DECLARED.finditer(path.read_text())}
     return found
 
@@ -145,7 +149,7 @@ def main():
         if "-" in old and new in taken:
             names[old] = new + "_lem"
     for path, text in texts.items():
-        if path.name in OWN_FILES or path.suffix == ".rt" or path.name == "Determined.antt":
+        if walk(path) or path.suffix == ".rt" or path.name == "Determined.antt":
             continue
         tokens = set(TOKEN.findall(re.sub(r"(?m)--.*$", "", text)))
         for old in tokens & names.keys():

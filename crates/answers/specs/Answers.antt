@@ -12,15 +12,15 @@ told number = cond (number == 0) 0 (refusal number)
 -- ---- as C reads it
 
 -- bit 8, and the eight bits below
-unfoldable pub refusedIn : ℕ → Bool
-refusedIn w = w / 256 % 2 == 1
+unfoldable pub refused_in : ℕ → Bool
+refused_in w = w / 256 % 2 == 1
 
 abbrev pub number_in : ℕ → ℕ
 number_in w = w % 256
 
 unfoldable pub told_in : ℕ → ℕ
-told_in w = cond (refusedIn w) (number_in w) 0
+told_in w = cond (refused_in w) (number_in w) 0
 
 -- the low four bits, and bit 8: a line below 16, or, of a refusal, none
-abbrev pub lineIn : ℕ → ℕ
-lineIn w = w % 16 + 256 * (w / 256 % 2)
+abbrev pub line_in : ℕ → ℕ
+line_in w = w % 16 + 256 * (w / 256 % 2)

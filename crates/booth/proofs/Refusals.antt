@@ -15,7 +15,7 @@ use Rattle.numbers.specs.Writing as writing
 use Rattle.numbers.proofs.Checks.{never}
 use Rattle.numbers.proofs.Laws.{coded_short, answered_length, refused_out}
 use Rattle.plan.specs.declared.Plan.{Plan}
-use Rattle.answers.specs.Answers.{told, refusedIn}
+use Rattle.answers.specs.Answers.{told, refused_in}
 use Rattle.answers.proofs.Laws.{below_256, has_number}
 use Rattle.plan.specs.Plan.{at, no_plan, plan_ok}
 use Rattle.plan_record.specs.declared.PlanRead.{PlanRead}
@@ -34,63 +34,63 @@ use Rattle.booth.specs.Exports.{exported, exported_sent, copied}
 use Rattle.booth.proofs.Small.{marker_short}
 
 -- a writer
-kept : (number : ℕ) (bytes out : List ℕ) → length bytes ≤ 99 → refusedIn (exported (outcome number bytes out).answer) ≡ true → (outcome number bytes out).out ≡ out
+kept : (number : ℕ) (bytes out : List ℕ) → length bytes ≤ 99 → refused_in (exported (outcome number bytes out).answer) ≡ true → (outcome number bytes out).out ≡ out
 kept number bytes out short = go (outcome number bytes out).answer refl
   where
-    go : (w : Written) → (outcome number bytes out).answer ≡ w → refusedIn (exported (outcome number bytes out).answer) ≡ true → (outcome number bytes out).out ≡ out
+    go : (w : Written) → (outcome number bytes out).answer ≡ w → refused_in (exported (outcome number bytes out).answer) ≡ true → (outcome number bytes out).out ≡ out
     go (written.Length n) e h =
         let small : n < 256 = omega (arith, answered_length number bytes out n e) in
-        absurd (never (sym h ∙ ap (λ (w : Written). refusedIn (exported w)) e ∙ below_256 n small))
+        absurd (never (sym h ∙ ap (λ (w : Written). refused_in (exported w)) e ∙ below_256 n small))
     go (written.Refused k) e h = refused_out number bytes out k e
 
-pub number_refused : (v : ℕ) (out : List ℕ) → refusedIn (exported (writing.written (coded 32 v) out).answer) ≡ true → (writing.written (coded 32 v) out).out ≡ out
+pub number_refused : (v : ℕ) (out : List ℕ) → refused_in (exported (writing.written (coded 32 v) out).answer) ≡ true → (writing.written (coded 32 v) out).out ≡ out
 number_refused v out = kept _ (coded 32 v) out (omega (arith, coded_short 32 v))
 
-pub marker_refused : (m : Marker) (out : List ℕ) → refusedIn (exported (marker_written m out).answer) ≡ true → (marker_written m out).out ≡ out
+pub marker_refused : (m : Marker) (out : List ℕ) → refused_in (exported (marker_written m out).answer) ≡ true → (marker_written m out).out ≡ out
 unfolding marker_written
 marker_refused m out = kept _ (marker_bytes m) out (marker_short m)
 
-pub asked_refused : (s : Sender) (i : ℕ) (out : List ℕ) → refusedIn (exported (marker_from s i out).answer) ≡ true → (marker_from s i out).out ≡ out
+pub asked_refused : (s : Sender) (i : ℕ) (out : List ℕ) → refused_in (exported (marker_from s i out).answer) ≡ true → (marker_from s i out).out ≡ out
 unfolding marker_from
 asked_refused s i out = kept _ (line_marker s i) out (marker_short (marker_of i (at s.rounds i) (at s.counters i)))
 
-pub plan_refused : (p : Plan) (out : List ℕ) → refusedIn (exported (plan_written p out).answer) ≡ true → (plan_written p out).out ≡ out
+pub plan_refused : (p : Plan) (out : List ℕ) → refused_in (exported (plan_written p out).answer) ≡ true → (plan_written p out).out ≡ out
 plan_refused p out = go (plan_ok p) refl
   where
-    go : (t : Bool) → plan_ok p ≡ t → refusedIn (exported (plan_written p out).answer) ≡ true → (plan_written p out).out ≡ out
+    go : (t : Bool) → plan_ok p ≡ t → refused_in (exported (plan_written p out).answer) ≡ true → (plan_written p out).out ≡ out
     go true good = rw (← as_written p out good) (kept _ (plan_bytes p) out (omega (arith, fifty_four_bytes p good)))
     go false bad = rw (← (not_written p out bad).1) (λ h. refl)
 
-pub copy_refused : (s out : List ℕ) → refusedIn (exported (copied s out).answer) ≡ true → (copied s out).out ≡ out
+pub copy_refused : (s out : List ℕ) → refused_in (exported (copied s out).answer) ≡ true → (copied s out).out ≡ out
 copy_refused s out = plan_refused (plan_read s).plan out
 
-pub send_refused : (s : Sender) (n : ℕ) → refusedIn (exported_sent (send_of s n).answer) ≡ true → (send_of s n).next ≡ s
+pub send_refused : (s : Sender) (n : ℕ) → refused_in (exported_sent (send_of s n).answer) ≡ true → (send_of s n).next ≡ s
 send_refused s n = go (send_of s n).answer refl
   where
     flag : (due : Bool) → cond due 16 0 ≤ 16
     flag true = omega arith
     flag false = omega arith
 
-    go : (t : Sent) → (send_of s n).answer ≡ t → refusedIn (exported_sent (send_of s n).answer) ≡ true → (send_of s n).next ≡ s
+    go : (t : Sent) → (send_of s n).answer ≡ t → refused_in (exported_sent (send_of s n).answer) ≡ true → (send_of s n).next ≡ s
     go (sent.Went line due) e h =
         let small : line + cond due 16 0 < 256 = omega (arith, sent_on_line s n line due e, flag due) in
-        absurd (never (sym h ∙ ap (λ (t : Sent). refusedIn (exported_sent t)) e ∙ below_256 (line + cond due 16 0) small))
+        absurd (never (sym h ∙ ap (λ (t : Sent). refused_in (exported_sent t)) e ∙ below_256 (line + cond due 16 0) small))
     go (sent.Refused k) e h = refused_stays s n k e
 
-pub read_refused : (b : List ℕ) → refusedIn (told (plan_read b).number) ≡ true → (plan_read b).plan ≡ no_plan
+pub read_refused : (b : List ℕ) → refused_in (told (plan_read b).number) ≡ true → (plan_read b).plan ≡ no_plan
 read_refused b h = go (read_or_refused b)
   where
     go : ((plan_read b).number ≡ 0) ⊎ (plan_read b ≡ refused_plan) → (plan_read b).plan ≡ no_plan
     go (inl good) = absurd (has_number (plan_read b).number h good)
     go (inr bad) = ap (λ (r : PlanRead). r.plan) bad
 
-pub open_refused : (p : Plan) → refusedIn (told (open_sender p).number) ≡ true → (open_sender p).sender ≡ closed_sender
+pub open_refused : (p : Plan) → refused_in (told (open_sender p).number) ≡ true → (open_sender p).sender ≡ closed_sender
 unfolding open_sender
 open_refused p = go (plan_ok p)
   where
     opened : Bool → SenderOpened
     opened t = cond t (record { number = 0; sender = opened_sender p }) (record { number = 1; sender = closed_sender })
 
-    go : (t : Bool) → refusedIn (told (opened t).number) ≡ true → (opened t).sender ≡ closed_sender
+    go : (t : Bool) → refused_in (told (opened t).number) ≡ true → (opened t).sender ≡ closed_sender
     go true h = absurd (has_number 0 h refl)
     go false h = refl

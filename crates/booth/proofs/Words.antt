@@ -13,7 +13,7 @@ use Rattle.numbers.specs.declared.Written.TheVariants as written
 use Rattle.numbers.specs.Coding.{reading_of, coded}
 use Rattle.numbers.specs.Writing as writing
 use Rattle.numbers.proofs.Laws.{place, size}
-use Rattle.answers.specs.Answers.{refusal, told, told_in, lineIn}
+use Rattle.answers.specs.Answers.{refusal, told, told_in, line_in}
 use Rattle.answers.proofs.Laws.{refusal_read, bit_8_clear, below_256, told_back}
 use Rattle.plan.specs.declared.Plan.{Plan}
 use Rattle.plan.specs.Limits.{most_lines, most_quantum}
@@ -155,5 +155,5 @@ sent_reads_back s n = sent_told (send_of s n).answer (go (send_of s n).answer re
     go (sent.Refused k) e = omega (arith, sends.number_small s n k e)
 
 -- ---- of a refusal C's macros give nothing that there is: no place, no line, no counter; and no markers are due
-pub refusal_says_nothing : (k : ℕ) → k < 256 → let w = refusal k in (256 ≤ w % 512) × (256 ≤ lineIn w) × (w % 4294967296 / 512 ≡ 0)
+pub refusal_says_nothing : (k : ℕ) → k < 256 → let w = refusal k in (256 ≤ w % 512) × (256 ≤ line_in w) × (w % 4294967296 / 512 ≡ 0)
 refusal_says_nothing k h = (omega arith, omega arith, omega arith)

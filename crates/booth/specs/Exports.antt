@@ -5,7 +5,7 @@ use Rattle.numbers.specs.declared.Reading.TheVariants.{Number, Nothing}
 use Rattle.numbers.specs.declared.Written.{Written}
 use Rattle.numbers.specs.declared.Written.TheVariants as w
 use Rattle.numbers.specs.Writing.{Outcome}
-use Rattle.answers.specs.Answers.{refusal, told, refusedIn, number_in, lineIn}
+use Rattle.answers.specs.Answers.{refusal, told, refused_in, number_in, line_in}
 use Rattle.plan_record.specs.declared.PlanRead.{PlanRead}
 use Rattle.plan_record.specs.Record.{plan_read, plan_written}
 use Rattle.marker.specs.declared.MarkerRead.{MarkerRead}
@@ -24,7 +24,7 @@ exported (w.Length n) = n
 exported (w.Refused k) = refusal k
 
 unfoldable pub written_in : ℕ → Written
-written_in a = cond (refusedIn a) (w.Refused (number_in a)) (w.Length a)
+written_in a = cond (refused_in a) (w.Refused (number_in a)) (w.Length a)
 
 -- where the upper half of an answer of 64 bits begins
 abbrev pub bit32 : ℕ
@@ -36,7 +36,7 @@ exported_reading Nothing = refusal 5
 exported_reading (Number v at) = at + bit32 * v
 
 unfoldable pub reading_in : ℕ → Reading
-reading_in a = cond (refusedIn a) Nothing (Number (a / bit32) (a % 512))
+reading_in a = cond (refused_in a) Nothing (Number (a / bit32) (a % 512))
 
 -- a marker's: the line, 512 times the counter, and the round in the upper half
 abbrev pub exported_marker : MarkerRead → ℕ
@@ -44,7 +44,7 @@ exported_marker (m.Whole k) = k.line + 512 * k.counter + bit32 * k.round
 exported_marker (m.Refused number) = refusal number
 
 unfoldable pub marker_in : ℕ → MarkerRead
-marker_in a = cond (refusedIn a) (m.Refused (number_in a)) (m.Whole (marker_of (a % 512) (a / bit32) (a % bit32 / 512)))
+marker_in a = cond (refused_in a) (m.Refused (number_in a)) (m.Whole (marker_of (a % 512) (a / bit32) (a % bit32 / 512)))
 
 -- a send's: the line, 16 added when markers are due
 abbrev pub exported_sent : Sent → ℕ
@@ -52,7 +52,7 @@ exported_sent (s.Went line due) = line + cond due 16 0
 exported_sent (s.Refused k) = refusal k
 
 unfoldable pub sent_in : ℕ → Sent
-sent_in a = cond (refusedIn a) (s.Refused (number_in a)) (s.Went (lineIn a) (eqb (a / 16 % 2) 1))
+sent_in a = cond (refused_in a) (s.Refused (number_in a)) (s.Went (line_in a) (eqb (a / 16 % 2) 1))
 
 -- the plan of a record, written again
 abbrev pub copied : List ℕ → List ℕ → Outcome

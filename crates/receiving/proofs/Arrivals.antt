@@ -17,7 +17,7 @@ use Rattle.marker.specs.declared.MarkerRead.TheVariants.{Whole, Refused}
 use Rattle.marker.specs.Marker.{number_of}
 use Rattle.report.specs.Report.{marker_on}
 use Rattle.report.proofs.Laws.{some_number}
-use Rattle.ring.specs.Ring.{room_for, stored as filledRing}
+use Rattle.ring.specs.Ring.{room_for, stored as filled_ring}
 use Rattle.receiving.specs.declared.Receiver.{Receiver}
 use Rattle.receiving.specs.declared.Arrived.{Arrived}
 use Rattle.receiving.specs.Receiver.{with_held, receiver_ok, store_fits, ring_of, with_ring}
@@ -40,7 +40,7 @@ module _ (r : Receiver) (i kind : ℕ) (b store : List ℕ) (here : Place r stor
   before = lent size store start
 
   abbrev filled : List ℕ → List ℕ
-  filled ring = filledRing ring (place_of r i).head used kind b
+  filled ring = filled_ring ring (place_of r i).head used kind b
 
   module _ (ok : Bool) (ring : List ℕ) (told : (ok ≡ room_for (length before) used (length b)) × (ring ≡ cond ok (filled before) before)) where
     room_is : (t : Bool) → ok ≡ t → room_for size used (length b) ≡ t

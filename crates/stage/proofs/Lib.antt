@@ -1,5 +1,4 @@
 mod Small
-mod Arrivals
 mod Words
 mod Determined
 mod Refusals

@@ -7,7 +7,7 @@ use mathlib.Core.Bool.{Bool, true, false, cond, ◌&&◌}
 use mathlib.Core.List.{List}
 use lib.ListN.{length}
 use Rattle.numbers.proofs.Checks.{never}
-use Rattle.answers.specs.Answers.{told, refusedIn}
+use Rattle.answers.specs.Answers.{told, refused_in}
 use Rattle.answers.proofs.Laws.{bit_8_clear, below_256, has_number}
 use Rattle.plan.specs.Plan.{plan_ok, store_ok}
 use Rattle.plan.specs.declared.Plan.{Plan}
@@ -26,10 +26,10 @@ use Rattle.taking.proofs.Words.{Told, take_told}
 use Rattle.stage.specs.Exports.{kind_in}
 
 module _ (r : Receiver) (i : ℕ) (b store : List ℕ) where
-  pub data_refused : let a = data_arrival r i b store in refusedIn (told a.arrived.number) ≡ true → (a.arrived.next ≡ r) × (a.store ≡ store)
+  pub data_refused : let a = data_arrival r i b store in refused_in (told a.arrived.number) ≡ true → (a.arrived.next ≡ r) × (a.store ≡ store)
   data_refused h = demand_1.data_refused r i b store (has_number _ h)
 
-  pub marker_refused : let a = marker_arrival r i b store in refusedIn (told a.arrived.number) ≡ true → (a.arrived.next ≡ r) × (a.store ≡ store)
+  pub marker_refused : let a = marker_arrival r i b store in refused_in (told a.arrived.number) ≡ true → (a.arrived.next ≡ r) × (a.store ≡ store)
   marker_refused h = demand_1.marker_refused r i b store (has_number _ h)
 
 -- a take: refused, or waiting, which is the kind 3
@@ -40,10 +40,10 @@ module _ (r : Receiver) (store out : List ℕ) where
   abbrev Stays : Type 0
   Stays = ((take_of r store out).result.next ≡ r) × ((take_of r store out).out ≡ out)
 
-  pub take_refused : refusedIn (taken_word answer) ≡ true → Stays
+  pub take_refused : refused_in (taken_word answer) ≡ true → Stays
   take_refused h = demand_1.take_refused r store out (stops answer (take_told r store out) h)
     where
-      stops : (t : Taken) → Told t → refusedIn (taken_word t) ≡ true → goes_on t ≡ false
+      stops : (t : Taken) → Told t → refused_in (taken_word t) ≡ true → goes_on t ≡ false
       stops (Waiting i) told e = refl
       stops (Data i n) told e = absurd (never (sym e ∙ bit_8_clear _ i n refl (omega arith)))
       stops (Missing i m) told e = absurd (never (sym e ∙ bit_8_clear _ (16 + i) m refl (omega arith)))
@@ -71,7 +71,7 @@ module _ (r : Receiver) (store out log : List ℕ) where
   pub run_refused_9 : receiver_ok r ≡ true → (length store ≡ r.plan.lines * r.rings.size → ⊥) → Kept (takes_of r store out log)
   run_refused_9 good bad = rw (← bad_store r store out log good bad) (refl, refl, refl, refl, refl)
 
-pub open_refused : (p : Plan) (size : ℕ) → refusedIn (told (open_receiver p size).number) ≡ true → (open_receiver p size).receiver ≡ closed_receiver
+pub open_refused : (p : Plan) (size : ℕ) → refused_in (told (open_receiver p size).number) ≡ true → (open_receiver p size).receiver ≡ closed_receiver
 unfolding open_receiver
 open_refused p size h = go (plan_ok p && store_ok p size) (has_number _ h)
   where

@@ -7,7 +7,7 @@ use native.Mathlib.Omega.{arith}
 use mathlib.Core.List.{List}
 use lib.ListN.{drop}
 use borrow.Author.Tests.{eq-eqb, ne_eqb}
-use Rattle.answers.specs.Answers.{refusal, told, told_in, lineIn}
+use Rattle.answers.specs.Answers.{refusal, told, told_in, line_in}
 use Rattle.answers.proofs.Laws.{refusal_read, bit_8_clear, below_256, told_back}
 use Rattle.plan.specs.declared.Plan.{Plan}
 use Rattle.receiving.specs.declared.Receiver.{Receiver}
@@ -95,5 +95,5 @@ module _ (r : Receiver) (store out log : List ℕ) where
   why_is_next = (run_stops r store out log).word
 
 -- of a refusal C's macros give nothing that there is: a line, a kind, or a value
-pub refusal_says_nothing : (k : ℕ) → k < 256 → let w = refusal k in (256 ≤ lineIn w) × (16 ≤ kind_in w) × (value_in w ≡ 0)
+pub refusal_says_nothing : (k : ℕ) → k < 256 → let w = refusal k in (256 ≤ line_in w) × (16 ≤ kind_in w) × (value_in w ≡ 0)
 refusal_says_nothing k h = (omega arith, omega arith, omega arith)

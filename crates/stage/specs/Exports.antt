@@ -1,6 +1,6 @@
 -- Answers as the stage's C gets them, one number each by the rule of `answers`, three for a run of takes; and how C reads them back.
 use Rattle.std.specs.Prelude.{ℕ, ◌/◌, ◌%◌, cond, List, eqb}
-use Rattle.answers.specs.Answers.{told, refusedIn, number_in, lineIn}
+use Rattle.answers.specs.Answers.{told, refused_in, number_in, line_in}
 use Rattle.plan_record.specs.Record.{plan_read}
 use Rattle.receiving.specs.declared.Receiver.{Receiver}
 use Rattle.receiving.specs.declared.ReceiverOpened.{ReceiverOpened}
@@ -21,7 +21,7 @@ use Rattle.stage.specs.declared.CodedRun.{CodedRun}
 abbrev pub stage_run : TakesResult → StageRun
 stage_run t = record { why = ended_word t.ended; taken = t.taken; bytes = t.bytes }
 
--- a word as C reads it: what it was, from bit 4 to bit 8, and what stands above; its line is `lineIn` of `answers`
+-- a word as C reads it: what it was, from bit 4 to bit 8, and what stands above; its line is `line_in` of `answers`
 abbrev pub kind_in : ℕ → ℕ
 kind_in w = w / 16 % 32
 
@@ -30,14 +30,14 @@ value_in w = w / 512
 
 unfoldable pub read_taken : ℕ → Taken
 read_taken w =
-    cond (refusedIn w) (Refused (number_in w))
-    (cond (eqb (kind_in w) 0) (Data (lineIn w) (value_in w))
-    (cond (eqb (kind_in w) 1) (Missing (lineIn w) (value_in w))
-    (cond (eqb (kind_in w) 2) (Behind (lineIn w)) (Waiting (lineIn w)))))
+    cond (refused_in w) (Refused (number_in w))
+    (cond (eqb (kind_in w) 0) (Data (line_in w) (value_in w))
+    (cond (eqb (kind_in w) 1) (Missing (line_in w) (value_in w))
+    (cond (eqb (kind_in w) 2) (Behind (line_in w)) (Waiting (line_in w)))))
 
 -- why a run ended, as C reads it
 unfoldable pub read_ended : ℕ → Ended
-read_ended w = cond (refusedIn w) (ended.Refused (number_in w)) (cond (eqb (kind_in w) 4) ended.Full (ended.Waiting (lineIn w)))
+read_ended w = cond (refused_in w) (ended.Refused (number_in w)) (cond (eqb (kind_in w) 4) ended.Full (ended.Waiting (line_in w)))
 
 -- ---- what the steps inside the calls answer; the calls' contracts cite what they call
 

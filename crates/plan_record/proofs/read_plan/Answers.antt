@@ -11,10 +11,10 @@ use Rattle.plan_record.proofs.read_plan.Goals as goal
 use Rattle.plan_record.proofs.read_plan.Goals.{In-Number, In-Number-read_within, In-Number-read_within-2}
 
 -- the record, and what each reading told
-abbrev recordOf : In-Number → List ℕ
-recordOf c = c.args.s.now
+abbrev record_of : In-Number → List ℕ
+record_of c = c.args.s.now
 
-lines : (c : In-Number) → within least_lines most_lines (reading_of 32 (recordOf c)) ≡ Number c.in-Number.lines c.in-Number.a
+lines : (c : In-Number) → within least_lines most_lines (reading_of 32 (record_of c)) ≡ Number c.in-Number.lines c.in-Number.a
 lines c = sym c.read_within.ensures ∙ c.in-Number.is
 
 largest :
@@ -31,8 +31,8 @@ interval c =
     rw (rest a s, rest c.in-Number-read_within.b (drop a s)) at (sym c.read_within-3.ensures ∙ c.in-Number-read_within-2.is)
 
 -- each ends within the bytes that it was read from
-ends-lines : (c : In-Number) → c.in-Number.a ≤ length (recordOf c)
-ends-lines c = (place 32 (recordOf c) (kept least_lines most_lines (reading_of 32 (recordOf c)) (lines c)).0).1
+ends-lines : (c : In-Number) → c.in-Number.a ≤ length (record_of c)
+ends-lines c = (place 32 (record_of c) (kept least_lines most_lines (reading_of 32 (record_of c)) (lines c)).0).1
 
 ends-max :
     (c : In-Number-read_within) →
@@ -68,11 +68,11 @@ returns-in_default-read_within c =
 
 pub slice_bounds-after_max-count : goal.slice_bounds-after_max-count
 slice_bounds-after_max-count c =
-    rw (rest c.in-Number.a (recordOf (goal.at.slice_bounds-after_max-count c).In-Number)) (omega (arith, ends-max (goal.at.slice_bounds-after_max-count c).In-Number-read_within))
+    rw (rest c.in-Number.a (record_of (goal.at.slice_bounds-after_max-count c).In-Number)) (omega (arith, ends-max (goal.at.slice_bounds-after_max-count c).In-Number-read_within))
 
 pub slice_bounds-after_max-start : goal.slice_bounds-after_max-start
 slice_bounds-after_max-start c =
-    rw (rest c.in-Number.a (recordOf (goal.at.slice_bounds-after_max-start c).In-Number)) (omega (arith, ends-max (goal.at.slice_bounds-after_max-start c).In-Number-read_within))
+    rw (rest c.in-Number.a (record_of (goal.at.slice_bounds-after_max-start c).In-Number)) (omega (arith, ends-max (goal.at.slice_bounds-after_max-start c).In-Number-read_within))
 
 pub returns-in_default-read_within-2 : goal.returns-in_default-read_within-2
 returns-in_default-read_within-2 c =
@@ -85,16 +85,16 @@ returns-in_default-read_within-2 c =
 pub slice_bounds-read_quanta-count : goal.slice_bounds-read_quanta-count
 slice_bounds-read_quanta-count c =
     let a = c.in-Number.a in
-    rw (rest a (recordOf (goal.at.slice_bounds-read_quanta-count c).In-Number), rest c.in-Number-read_within.b (drop a (recordOf (goal.at.slice_bounds-read_quanta-count c).In-Number))) (omega (arith, ends-interval (goal.at.slice_bounds-read_quanta-count c).In-Number-read_within-2))
+    rw (rest a (record_of (goal.at.slice_bounds-read_quanta-count c).In-Number), rest c.in-Number-read_within.b (drop a (record_of (goal.at.slice_bounds-read_quanta-count c).In-Number))) (omega (arith, ends-interval (goal.at.slice_bounds-read_quanta-count c).In-Number-read_within-2))
 
 pub slice_bounds-read_quanta-start : goal.slice_bounds-read_quanta-start
 slice_bounds-read_quanta-start c =
     let a = c.in-Number.a in
-    rw (rest a (recordOf (goal.at.slice_bounds-read_quanta-start c).In-Number), rest c.in-Number-read_within.b (drop a (recordOf (goal.at.slice_bounds-read_quanta-start c).In-Number))) (omega (arith, ends-interval (goal.at.slice_bounds-read_quanta-start c).In-Number-read_within-2))
+    rw (rest a (record_of (goal.at.slice_bounds-read_quanta-start c).In-Number), rest c.in-Number-read_within.b (drop a (record_of (goal.at.slice_bounds-read_quanta-start c).In-Number))) (omega (arith, ends-interval (goal.at.slice_bounds-read_quanta-start c).In-Number-read_within-2))
 
 pub read_quanta-requires : goal.read_quanta-requires
 read_quanta-requires c =
-    (from_range least_lines c.in-Number.lines most_lines (kept least_lines most_lines (reading_of 32 (recordOf (goal.at.read_quanta-requires c).In-Number)) (lines (goal.at.read_quanta-requires c).In-Number)).1).1
+    (from_range least_lines c.in-Number.lines most_lines (kept least_lines most_lines (reading_of 32 (record_of (goal.at.read_quanta-requires c).In-Number)) (lines (goal.at.read_quanta-requires c).In-Number)).1).1
 
 pub returns : goal.returns
 returns c =
