@@ -21,7 +21,7 @@ use numbers::Reading;
 const LAST_KIND: u32 = 12;
 
 // Its bytes stand from a place of the input to another, which is the place after the step.
-#[derive(Drop)]
+#[derive(Clone, Copy)]
 pub struct Step {
     pub kind: u32,
     pub a: u32,

@@ -1,63 +1,65 @@
 // What is printed: a line for each step, with its kind, what was answered in a word and two numbers, a digest of the output where one was lent, and
 // three digests of what stands then: the sender, the receiver and the store.
-use libc::STDOUT_FILENO;
 use numbers::Written;
 use receiving::{Ended, Taken};
 use sending::Sent;
+use std::io;
+use std::io::Write;
 
-pub(crate) fn say(words: &[u8]) {
-    io::write_all(STDOUT_FILENO, words);
-}
-
-pub(crate) fn say_kind(kind: u32) {
-    io::print_decimal(STDOUT_FILENO, kind as u64);
+pub(crate) fn say_kind<W: Write>(printer: &mut W, kind: u32) -> io::Result<()> {
+    write!(printer, "{kind}")
 }
 
 // A word, filled up to one length, and two numbers.
-pub(crate) fn say_answer(word: &[u8], a: u64, b: u64) {
-    say(word);
-    io::print_decimal(STDOUT_FILENO, a);
-    say(b" ");
-    io::print_decimal(STDOUT_FILENO, b);
+pub(crate) fn say_answer<W: Write>(
+    printer: &mut W,
+    word: &str,
+    a: u64,
+    b: u64,
+) -> io::Result<()> {
+    write!(printer, "{word}{a} {b}")
 }
 
 // Forty bits, as ten digits.
-pub(crate) fn say_digest(digest: u64) {
-    say(b" ");
-    io::print_hex(STDOUT_FILENO, digest, 10);
+pub(crate) fn say_digest<W: Write>(printer: &mut W, digest: u64) -> io::Result<()> {
+    write!(printer, " {digest:010x}")
 }
 
-pub(crate) fn say_sent(answer: Sent) {
+pub(crate) fn say_line_end<W: Write>(printer: &mut W) -> io::Result<()> {
+    writeln!(printer)
+}
+
+pub(crate) fn say_sent<W: Write>(printer: &mut W, answer: Sent) -> io::Result<()> {
     match answer {
         Sent::Went(line, due) => {
             let also = if due { 1 } else { 0 };
-            say_answer(b" sent    ", line as u64, also);
+            say_answer(printer, " sent    ", line as u64, also)
         }
-        Sent::Refused(number) => say_answer(b" refused ", number as u64, 0),
+        Sent::Refused(number) => say_answer(printer, " refused ", number as u64, 0),
     }
 }
 
-pub(crate) fn say_written(answer: Written) {
+pub(crate) fn say_written<W: Write>(printer: &mut W, answer: Written) -> io::Result<()> {
     match answer {
-        Written::Length(n) => say_answer(b" written ", n as u64, 0),
-        Written::Refused(number) => say_answer(b" refused ", number as u64, 0),
+        Written::Length(n) => say_answer(printer, " written ", n as u64, 0),
+        Written::Refused(number) => say_answer(printer, " refused ", number as u64, 0),
     }
 }
 
-pub(crate) fn say_taken(answer: Taken) {
+pub(crate) fn say_taken<W: Write>(printer: &mut W, answer: Taken) -> io::Result<()> {
     match answer {
-        Taken::Waiting(line) => say_answer(b" waiting ", line as u64, 0),
-        Taken::Data(line, n) => say_answer(b" packet  ", line as u64, n as u64),
-        Taken::Missing(line, missing) => say_answer(b" missing ", line as u64, missing),
-        Taken::Behind(line) => say_answer(b" behind  ", line as u64, 0),
-        Taken::Refused(number) => say_answer(b" refused ", number as u64, 0),
+        Taken::Waiting(line) => say_answer(printer, " waiting ", line as u64, 0),
+        Taken::Data(line, n) => say_answer(printer, " packet  ", line as u64, n as u64),
+        Taken::Missing(line, missing) => say_answer(printer, " missing ", line as u64, missing),
+        Taken::Behind(line) => say_answer(printer, " behind  ", line as u64, 0),
+        Taken::Refused(number) => say_answer(printer, " refused ", number as u64, 0),
     }
 }
 
-pub(crate) fn say_ended(ended: Ended) {
+pub(crate) fn say_ended<W: Write>(printer: &mut W, ended: Ended) -> io::Result<()> {
     match ended {
-        Ended::Full => say_answer(b" full    ", 0, 0),
-        Ended::Waiting(line) => say_answer(b" waiting ", line as u64, 0),
-        Ended::Refused(number) => say_answer(b" refused ", number as u64, 0),
+        Ended::Full => say_answer(printer, " full    ", 0, 0),
+        Ended::Waiting(line) => say_answer(printer, " waiting ", line as u64, 0),
+        Ended::Refused(number) => say_answer(printer, " refused ", number as u64, 0),
     }
 }

@@ -10,7 +10,6 @@ use Rattle.plan.specs.declared.Plan.{Plan}
 use Rattle.plan.specs.Limits.{most_lines}
 use Rattle.plan.specs.Plan.{line_plan, plan_ok, trimmed}
 use Rattle.plan.proofs.Laws.{in_range_lem, line_in_range, charge_some, charge_max, max_charge_quantum, first_ones, ones_length, trimmed_ok}
-use Rattle.theory.specs.Sending as T
 use Rattle.theory.specs.FirstForm.{Figures, first_send, first_after}
 use Rattle.theory.specs.Demands.{Sound, Shows}
 use Rattle.theory.proofs.Proved.{promises}

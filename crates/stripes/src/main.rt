@@ -2,8 +2,11 @@
 // the crate session; the memory is the same for any length of text.
 #![tactic(auto)]
 
-use libc::{STDIN_FILENO, STDOUT_FILENO};
 use session::Session;
+use std::io::{Read, Write};
+
+// How much is read or written at once, at the most.
+const PIECE: usize = 65_536;
 
 // The session after some text, and whether more is to be read.
 #[derive(Clone, Copy)]
@@ -13,8 +16,8 @@ struct Turn {
 }
 
 // Feeds all of a piece, and writes what it makes. A write that fails ends the reading, and so does a line that is refused.
-fn pass(s: Session, bytes: &[u8]) -> Turn {
-    let mut out = io::large_buffer();
+fn pass<W: Write>(s: Session, bytes: &[u8], output: &mut W) -> Turn {
+    let mut out = [0u8; PIECE];
     let mut next = s;
     let mut at: usize = 0;
     while at < bytes.len() {
@@ -23,7 +26,7 @@ fn pass(s: Session, bytes: &[u8]) -> Turn {
         let after = fed.session;
         next = after;
         at += fed.used;
-        if !io::write_all(STDOUT_FILENO, &out[..wrote]) {
+        if output.write_all(&out[..wrote]).is_err() {
             return Turn {
                 session: next,
                 more: false,
@@ -37,38 +40,39 @@ fn pass(s: Session, bytes: &[u8]) -> Turn {
     }
 }
 
-// One read, of whatever there is.
-fn one_read(s: Session) -> Turn {
-    let mut bytes = io::large_buffer();
-    let got = libc::read(STDIN_FILENO, &mut bytes);
-    if got <= 0 {
+// One read, of whatever there is. One that fails is the end of the text.
+fn one_read<R: Read, W: Write>(s: Session, input: &mut R, output: &mut W) -> Turn {
+    let mut bytes = [0u8; PIECE];
+    let n = input.read(&mut bytes).unwrap_or(0);
+    if n == 0 {
         return Turn {
             session: s,
             more: false,
         };
     }
-    let n = io::count(got, &bytes);
-    pass(s, &bytes[..n])
+    pass(s, &bytes[..n], output)
 }
 
-// The end of the text.
-fn last(s: Session) {
+// The end of the text. Nothing is left to do where it cannot be written.
+fn last<W: Write>(s: Session, output: &mut W) {
     let mut out = [0u8; Session::MOST_TEXT];
     let closed = session::close(s, &mut out);
     let wrote = closed.wrote;
-    io::write_all(STDOUT_FILENO, &out[..wrote]);
+    let _ = output.write_all(&out[..wrote]);
 }
 
-fn main() {
+fn main(rt: HostRuntime) {
+    let mut input = rt.stdin();
+    let mut output = rt.stdout();
     let mut s = session::begin();
     let mut turns = u64::MAX;
     let mut more = true;
     while turns > 0 && more {
-        let turn = one_read(s);
+        let turn = one_read(s, &mut input, &mut output);
         let after = turn.session;
         s = after;
         more = turn.more;
         turns -= 1;
     }
-    last(s);
+    last(s, &mut output);
 }

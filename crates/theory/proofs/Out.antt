@@ -14,7 +14,7 @@ use lib.ListN.{length}
 use lib.Seq.{take-suc, take-length}
 use Rattle.theory.specs.Sending.{Plan, carried, line_of}
 use Rattle.theory.specs.Demands.{Sound}
-use Rattle.theory.specs.System.{Item, packet, marker, State, at_opening, Step, take, step, run, sent_by, packets, nth, Out, outs}
+use Rattle.theory.specs.System.{Item, State, at_opening, Step, take, step, run, sent_by, packets, nth, Out, outs}
 use Rattle.theory.specs.Words.{total, NoneBehind, NoPacketIn, sieve, stored_below, takes}
 use Rattle.theory.specs.FarEnd.{after, handed_bytes, NothingLost, InOrder, AllOut}
 use Rattle.theory.proofs.Choose.{choose_wins}

@@ -1,6 +1,6 @@
 -- `numbers::row_length` meets its contract: what the row has from i on is still to be counted.
 -- Assumes nothing.
-use Rattle.std.proofs.Common.{ap, arith, drop, length, length-append, ◌+◌, ◌-◌, ◌∙◌, ◌≡◌}
+use Rattle.std.proofs.Common.{ap, arith, drop, length, length-append, ◌+◌, ◌∙◌, ◌≡◌}
 use Rattle.numbers.specs.Coding.{row_bytes}
 use Rattle.numbers.proofs.Laws.{row_next, row_done, row_size}
 use Rattle.numbers.proofs.row_length.Goals as goal

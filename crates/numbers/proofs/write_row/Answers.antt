@@ -1,6 +1,6 @@
 -- `numbers::write_row` meets its contract: what the row has from i on, stored from here, makes the output what it is to be.
 -- Assumes nothing.
-use Rattle.std.proofs.Common.{ap, arith, drop, get_or, length, length-append, refl, sym, ◌++◌, ◌+◌, ◌-◌, ◌∙◌, ◌≡◌}
+use Rattle.std.proofs.Common.{ap, arith, drop, get_or, length, length-append, refl, sym, ◌++◌, ◌+◌, ◌∙◌, ◌≡◌}
 use lib.Seq.{length-sets}
 use Rattle.numbers.specs.Coding.{coded, row_bytes}
 use Rattle.numbers.proofs.Laws.{row_next, row_done, sets-append, written_fits, written_over}

@@ -1,5 +1,5 @@
 -- `plan::counters_ok` meets its contract: after i turns the counters of the first i lines were in range, or not. Assumes nothing.
-use Rattle.std.proofs.Common.{Bool, List, ap, arith, false, length, refl, sym, true, ℕ, ◌-◌, ◌<◌, ◌∙◌, ◌≡◌}
+use Rattle.std.proofs.Common.{Bool, List, ap, arith, false, length, refl, sym, true, ℕ, ◌<◌, ◌∙◌, ◌≡◌}
 use lib.ListN.{get_or-eq_default}
 use Rattle.numbers.specs.Checks.{all_below}
 use Rattle.numbers.proofs.Checks.{all_more}

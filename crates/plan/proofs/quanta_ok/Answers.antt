@@ -1,5 +1,5 @@
 -- `plan::quanta_ok` meets its contract: after i turns the quanta of the first i lines were in range, or not. Assumes nothing.
-use Rattle.std.proofs.Common.{ap, arith, refl, sym, ◌-◌, ◌∙◌}
+use Rattle.std.proofs.Common.{ap, arith, refl, sym, ◌∙◌}
 use Rattle.numbers.specs.Checks.{all_below}
 use Rattle.numbers.proofs.Checks.{all_more}
 use Rattle.plan.specs.Plan.{quantum_ok}

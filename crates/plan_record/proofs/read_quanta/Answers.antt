@@ -1,5 +1,5 @@
 -- `plan_record::read_quanta` meets its contract: the quanta that are left, read from here, make the whole answer. Assumes nothing.
-use Rattle.std.proofs.Common.{arith, drop, drop-drop, length, length-drop, refl, rules, sym, ◌+◌, ◌-◌, ◌∙◌, ◌≡◌, ◌≤◌}
+use Rattle.std.proofs.Common.{arith, drop, drop-drop, length, length-drop, refl, rules, sym, ◌+◌, ◌∙◌, ◌≡◌, ◌≤◌}
 use native.Mathlib.Nat.{sub-zero}
 use Rattle.numbers.specs.declared.Reading.TheVariants.{Number, Nothing}
 use Rattle.numbers.specs.Coding.{reading_of}

@@ -1,5 +1,5 @@
 -- `plan_record::whole_row` meets its contract: after i turns the first i quanta stand behind the three numbers. Assumes nothing.
-use Rattle.std.proofs.Common.{List, add-one, ap, arith, get_or, length, length-set, refl, suc, sym, take-suc, take-suc-set, take_all, ℕ, ◌+◌, ◌-◌, ◌<◌, ◌∙◌, ◌∷◌, ◌≡◌}
+use Rattle.std.proofs.Common.{List, add-one, ap, arith, get_or, length, length-set, refl, suc, sym, take-suc, take-suc-set, take_all, ℕ, ◌+◌, ◌<◌, ◌∙◌, ◌∷◌, ◌≡◌}
 use Rattle.plan_record.proofs.whole_row.Goals as goal
 use Rattle.plan_record.proofs.whole_row.Goals.{Start}
 

@@ -1,5 +1,5 @@
 -- `report::tell` meets its contract. Assumes nothing.
-use Rattle.std.proofs.Common.{ap, refl, sym, ⊎_elim, ◌<◌, ◌∙◌}
+use Rattle.std.proofs.Common.{ap, refl, sym, ◌<◌, ◌∙◌}
 use Rattle.report.specs.declared.Report.TheVariants.{Missing}
 use Rattle.report.specs.Report.{ahead}
 use Rattle.report.proofs.Laws.{far_behind, counter_behind, same_round, later_round}
@@ -20,6 +20,6 @@ returns c =
     let within : ahead c.args.m.round c.args.round < 2147483648 = rw (← is) c.if-rounds-ge2147483648.false in
     ap Missing (c.owed.ensures ∙ rw is refl)
     ∙ elim c.if-rounds-eq0.branch [
-      then-rounds-eq0+else-counter-m w ↦ same_round _ _ _ _ within (sym is ∙ w.if-rounds-eq0.true) w.if-counter-m.false
-    | else-rounds-eq0 w ↦ later_round _ _ _ _ within (λ z. w.if-rounds-eq0.false (is ∙ z))
+      | then-rounds-eq0+else-counter-m w ↦ same_round _ _ _ _ within (sym is ∙ w.if-rounds-eq0.true) w.if-counter-m.false
+      | else-rounds-eq0 w ↦ later_round _ _ _ _ within (λ z. w.if-rounds-eq0.false (is ∙ z))
     ]

@@ -1,5 +1,5 @@
 -- `ring::lay` meets its contract: after i turns the first i bytes are laid in. Assumes nothing.
-use Rattle.std.proofs.Common.{add-one, ap, arith, length-set, mod-lt, refl, take_all, ◌-◌, ◌∙◌}
+use Rattle.std.proofs.Common.{add-one, ap, arith, length-set, mod-lt, refl, take_all, ◌∙◌}
 use Rattle.ring.specs.Ring.{into_ring}
 use Rattle.ring.proofs.Laws.{into_none, into_next}
 use Rattle.ring.proofs.lay.Goals as goal

@@ -1,5 +1,5 @@
 -- `ring::lift` meets its contract: after i turns the first i bytes are copied. Assumes nothing.
-use Rattle.std.proofs.Common.{add-one, ap, arith, length-set, mod-lt, refl, ℕ, ◌-◌, ◌∙◌, ◌≡◌}
+use Rattle.std.proofs.Common.{add-one, ap, arith, length-set, mod-lt, refl, ℕ, ◌∙◌, ◌≡◌}
 use Rattle.ring.specs.Ring.{from_ring, onto}
 use Rattle.ring.proofs.Laws.{from_none, from_next}
 use Rattle.ring.proofs.lift.Goals as goal

@@ -1,6 +1,6 @@
 -- `text::put_text` meets its contract: what is left of the text, stored from here, makes the output what it is to be.
 -- Assumes nothing.
-use Rattle.std.proofs.Common.{add-one, add-zero, arith, drop-cons, drop_of_length-le, length-set, refl, suc, ◌+◌, ◌-◌, ◌≡◌}
+use Rattle.std.proofs.Common.{add-one, add-zero, arith, drop-cons, drop_of_length-le, length-set, refl, suc, ◌+◌, ◌≡◌}
 use Rattle.text.proofs.Printing.{put_over, put_fits}
 use Rattle.text.proofs.put_text.Goals as goal
 
