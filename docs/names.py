@@ -64,12 +64,10 @@ def uses(path):
 
 def module_path(module):
     """The file of one of the project's own modules; None for a module of the toolchain's library."""
-    m = re.match(r"Rattle·(\w+)(?:·\w+)?\.(?:specs|proofs)?\.?(.*)$", module)
-    if not m:
+    m = re.match(r"Rattle\.(\w+)\.(specs|proofs)\.(.*)$", module)
+    if not m or not (CRATES / m.group(1)).is_dir():
         return None
-    crate, rest = m.groups()
-    if rest.startswith(("declared", "specs.declared")):
+    crate, kind, rest = m.groups()
+    if rest.startswith("declared"):
         return CRATES / crate / "src" / "lib.rt"
-    kind = "proofs" if "proofs" in module.split(".", 1)[1].split(".")[0] or "·proofs" in module else "specs"
-    rest = re.sub(r"^(specs|proofs)\.", "", rest)
     return CRATES / crate / kind / (rest.replace(".", "/") + ".antt")

@@ -2,7 +2,7 @@
  * each number. The booth makes packets and drops some of what it puts on the lines; the stage hands them out, and holds what the markers report missing
  * against what was dropped.
  *
- *   cc -std=c99 -O2 -Iinclude -o pair examples/pair.c target/staticlib/libstage.a target/staticlib/libbooth.a
+ *   cc -std=c99 -O2 -Iinclude -o pair examples/pair.c crates/stage/out/libstage.a crates/booth/out/libbooth.a
  *
  * Ends with 0 where the two are equal, with 1 where something does not hold, with 2 where there was no run to judge. */
 #define _POSIX_C_SOURCE 200809L

@@ -7,7 +7,7 @@ use crate::text;
 use std::io::{Read, Write};
 use std::process::{Command, Stdio};
 
-const PROGRAM: &str = concat!(env!("CARGO_MANIFEST_DIR"), "/../target/bin/stripes");
+const PROGRAM: &str = concat!(env!("CARGO_MANIFEST_DIR"), "/../crates/stripes/out/stripes");
 
 /// The program by itself, or where STRIPES_RUN names an emulator for its processor, as qemu-x86_64, by that.
 fn command() -> Command {
@@ -19,7 +19,7 @@ fn command() -> Command {
 }
 
 fn printed(input: &[u8], pieces: &[usize]) -> Vec<u8> {
-    let mut child = command().stdin(Stdio::piped()).stdout(Stdio::piped()).spawn().expect("target/bin/stripes is built");
+    let mut child = command().stdin(Stdio::piped()).stdout(Stdio::piped()).spawn().expect("crates/stripes/out/stripes is built");
     let mut stdin = child.stdin.take().expect("piped");
     let mut stdout = child.stdout.take().expect("piped");
     let reader = std::thread::spawn(move || {

@@ -15,7 +15,7 @@ use Rattle.receiving.specs.declared.Taken.TheVariants as taken
 use Rattle.receiving.specs.Taking.{take_of}
 use Rattle.bundle.specs.Events.{Parcel, Event, sent, marked, stored, turned_away, lost, nothing, handed, missing, behind, waiting, refused}
 use Rattle.bundle.specs.Events.{Handed, sent_by, handed_by, reported_by, each, sum}
-use Rattle.bundle.specs.Worlds.{World, Call, sends, asks, arrives, loses, takes, landing, land_seen, ask_seen, arrive_seen, lose_seen, take_seen, seen, call, calls, events, sent_in, handed_in, handed_out, reported_in}
+use Rattle.bundle.specs.Worlds.{World, Call, asks, arrives, loses, takes, landing, land_seen, ask_seen, arrive_seen, lose_seen, take_seen, seen, call, calls, events, sent_in, handed_in, handed_out, reported_in}
 use Rattle.bundle.specs.Log.{steps_of, log}
 use Rattle.bundle.specs.Words.{and_then}
 

@@ -4,7 +4,6 @@ use mathlib.Core.List.{List}
 use mathlib.Core.Path.{◌≡◌, ap}
 use Rattle.numbers.specs.declared.Written.TheVariants as written
 use Rattle.sending.specs.declared.Sender.{Sender}
-use Rattle.sending.specs.declared.Sent.TheVariants as sent
 use Rattle.sending.specs.Sender.{marker_from}
 use Rattle.numbers.proofs.Laws.{refused_out}
 use Rattle.sending.proofs.Promises.{stays_valid, refused_stays}

@@ -22,8 +22,8 @@ use Rattle.sending.specs.declared.Sent.TheVariants as went
 use Rattle.sending.specs.Sender.{send_of, marker_from}
 use Rattle.sending.proofs.InTheory.{sound}
 use Rattle.bundle.specs.Events.{Event, handed_by, reported_by, bytes_out}
-use Rattle.bundle.specs.Worlds.{World, Call, sends, asks, arrives, loses, takes, send_seen, seen, call, calls, handed_in, reported_in}
-use Rattle.bundle.specs.Log.{steps_of, log}
+use Rattle.bundle.specs.Worlds.{World, Call, sends, asks, arrives, loses, takes, send_seen, seen, call, handed_in, reported_in}
+use Rattle.bundle.specs.Log.{steps_of}
 use Rattle.bundle.specs.Words.{and_then, Opens}
 use Rattle.bundle.specs.Demands.{theirs, opened, after, log_of, system, sent_of, carried, Near}
 use Rattle.bundle.proofs.Meeting.{Far, Roads}

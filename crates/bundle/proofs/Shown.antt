@@ -16,7 +16,7 @@ use Rattle.sending.specs.declared.Sent.{Sent}
 use Rattle.sending.specs.declared.Sent.TheVariants as went
 use Rattle.sending.specs.Sender.{send_of, marker_from}
 use Rattle.receiving.specs.Taking.{take_of}
-use Rattle.bundle.specs.Events.{Parcel, packet, marker, Event, sent, stored, lost, nothing, put_by, left_by, lost_by, stored_by, each}
+use Rattle.bundle.specs.Events.{Parcel, packet, marker, Event, stored, nothing, put_by, left_by, lost_by, stored_by, each}
 use Rattle.bundle.specs.Worlds.{World, Call, sends, asks, arrives, loses, takes, landing, send_seen, arrive_seen, lose_seen, seen, with_road, roads_after, call, calls, events}
 use Rattle.bundle.specs.Log.{steps_of, parcel_of, entry_of}
 use Rattle.bundle.specs.Words.{back}

@@ -8,7 +8,7 @@ use Rattle.receiving.specs.declared.Taken.{Taken}
 use Rattle.receiving.specs.declared.Taken.TheVariants as taken
 use Rattle.receiving.specs.Stage.{stage, queue_on}
 use Rattle.bundle.specs.Events.{Parcel, packet, marker}
-use Rattle.bundle.specs.Worlds.{World, Call, takes, call}
+use Rattle.bundle.specs.Worlds.{World, Call}
 
 -- A plan and S in range, and a store of N × S bytes (a plan's quanta are an array of sixteen). Both ends open then, and only then.
 pub record Opens (p : Plan) (size : ℕ) (store : List ℕ) : Type 0 where

@@ -1,5 +1,5 @@
 -- What bytes spell as a marker, and what is read of them. Assumes nothing.
-use Prim.Native.Nat.{ℕ, ◌+◌, ◌-◌}
+use Prim.Native.Nat.{ℕ}
 use mathlib.Core.Bool.{Bool, true, false, cond}
 use mathlib.Core.List.{List, ◌++◌, append-nil, append_assoc}
 use mathlib.Core.Logic.{◌⊎◌, inl, inr}
@@ -14,7 +14,7 @@ use Rattle.plan.specs.Ranges.{From}
 use Rattle.marker.specs.declared.Marker.{Marker}
 use Rattle.marker.specs.declared.MarkerRead.{MarkerRead}
 use Rattle.marker.specs.declared.MarkerRead.TheVariants.{Whole, Refused}
-use Rattle.marker.specs.Marker.{number_of, marker_of, record_read, marker_bytes, judge, judged}
+use Rattle.marker.specs.Marker.{number_of, marker_of, record_read, marker_bytes, judge}
 use Rattle.marker.proofs.Laws.{whole_not_refused, record_written, record_read_lem}
 use Rattle.calls.specs.Plain.{MarkerSpelled, MarkerTo, MarkerOf}
 use Rattle.calls.proofs.Rows.{settled}

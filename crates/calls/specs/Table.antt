@@ -1,6 +1,6 @@
 -- The table of numbers: for each call its numbers in the order of its checks, each given exactly when its row holds and none before it does, and 0,
 -- accepted, exactly when none holds. Of any plan, state, length, bytes and buffers, reached or not.
-use Rattle.std.specs.Prelude.{ℕ, ◌+◌, ◌-◌, ◌*◌, ◌≤◌, ◌<◌, List, ◌⊎◌, ◌≡◌, length, take, drop}
+use Rattle.std.specs.Prelude.{ℕ, ◌+◌, ◌-◌, ◌*◌, ◌≤◌, ◌<◌, List, ◌⊎◌, ◌≡◌, length, drop}
 use Rattle.numbers.specs.Coding.{Bytes, coded}
 use Rattle.numbers.specs.Writing.{written_number, written}
 use Rattle.plan.specs.declared.Plan.{Plan}

@@ -32,7 +32,6 @@ use Rattle.ring.specs.Queue.{Entry, items_in, queue}
 use Rattle.receiving.specs.declared.Taken.{Taken}
 use Rattle.receiving.specs.declared.Taken.TheVariants as taken
 use Rattle.receiving.specs.Receiver.{held_of, first_from, line_at, rings_ok, turns_ok, receiver_ok, open_receiver, ring_of, with_ring}
-use Rattle.receiving.specs.Receiver as receiver
 use Rattle.receiving.specs.Arriving.{arrival, arrival_of}
 use Rattle.receiving.specs.Taking.{head_on, item_on, round_now, take_of}
 use Rattle.bundle.specs.Events.{packet}

@@ -18,7 +18,6 @@ use Rattle.theory.specs.System as T
 use Rattle.theory.specs.FarEnd.{front, near_head, near_step}
 use Rattle.theory.specs.FarEnd as F
 use Rattle.theory.proofs.Histories.{run_append}
-use Rattle.receiving.specs.declared.Taken.TheVariants as taken
 use Rattle.bundle.specs.Worlds.{World, Call, sends, asks, arrives, loses, takes, seen, call}
 use Rattle.bundle.specs.Log.{steps_of, log}
 use Rattle.bundle.specs.Words.{and_then, RoomFor, held_below}

@@ -35,7 +35,12 @@ fn open<W: Write>(printer: &mut W, p: Plan, size: u32, lent: u32) -> io::Result<
     let stage = receiver::open(p, size);
     let sender = booth.sender;
     let receiver = stage.receiver;
-    text::say_answer(printer, " opened  ", booth.number as u64, stage.number as u64)?;
+    text::say_answer(
+        printer,
+        " opened  ",
+        booth.number as u64,
+        stage.number as u64,
+    )?;
     Ok(Ends {
         sender,
         receiver,
@@ -43,7 +48,12 @@ fn open<W: Write>(printer: &mut W, p: Plan, size: u32, lent: u32) -> io::Result<
     })
 }
 
-pub(crate) fn open_record<W: Write>(printer: &mut W, record: &[u8], size: u32, lent: u32) -> io::Result<Ends> {
+pub(crate) fn open_record<W: Write>(
+    printer: &mut W,
+    record: &[u8],
+    size: u32,
+    lent: u32,
+) -> io::Result<Ends> {
     let read = plan_record::read_plan(record);
     let p = read.plan;
     text::say_answer(printer, " plan    ", read.number as u64, 0)?;
@@ -102,7 +112,13 @@ fn data_bytes(number: u32) -> [u8; MOST_DATA]
 }
 
 // Data arrives, or a marker.
-fn arrive<W: Write>(printer: &mut W, r: Receiver, st: Step, bytes: &[u8], store: &mut [u8]) -> io::Result<Receiver> {
+fn arrive<W: Write>(
+    printer: &mut W,
+    r: Receiver,
+    st: Step,
+    bytes: &[u8],
+    store: &mut [u8],
+) -> io::Result<Receiver> {
     if st.kind == 7 {
         let marker = receiver::marker_arrives(r, st.a, bytes, store);
         let marked = marker.next;
@@ -117,7 +133,13 @@ fn arrive<W: Write>(printer: &mut W, r: Receiver, st: Step, bytes: &[u8], store:
     Ok(next)
 }
 
-fn take<W: Write>(printer: &mut W, r: Receiver, room: u32, store: &[u8], out: &mut [u8]) -> io::Result<Receiver> {
+fn take<W: Write>(
+    printer: &mut W,
+    r: Receiver,
+    room: u32,
+    store: &[u8],
+    out: &mut [u8],
+) -> io::Result<Receiver> {
     let n = at_most(room, out.len());
     let t = taking::take(r, store, &mut out[0..n]);
     let answer = t.answer;
@@ -128,7 +150,14 @@ fn take<W: Write>(printer: &mut W, r: Receiver, room: u32, store: &[u8], out: &m
 }
 
 // A run of takes. The log holds 9s, so that a word written shows.
-fn take_run<W: Write>(printer: &mut W, r: Receiver, room: u32, words: u32, store: &[u8], out: &mut [u8]) -> io::Result<Receiver> {
+fn take_run<W: Write>(
+    printer: &mut W,
+    r: Receiver,
+    room: u32,
+    words: u32,
+    store: &[u8],
+    out: &mut [u8],
+) -> io::Result<Receiver> {
     let mut log = [9u64; MOST_WORDS];
     let n = at_most(room, out.len());
     let m = at_most(words, MOST_WORDS);
@@ -150,7 +179,13 @@ fn set_byte(place: u32, value: u32, store: &mut [u8]) {
     }
 }
 
-fn at_stage<W: Write>(printer: &mut W, r: Receiver, st: Step, bytes: &[u8], store: &mut [u8]) -> io::Result<Receiver> {
+fn at_stage<W: Write>(
+    printer: &mut W,
+    r: Receiver,
+    st: Step,
+    bytes: &[u8],
+    store: &mut [u8],
+) -> io::Result<Receiver> {
     let kind = st.kind;
     if kind < 8 {
         return arrive(printer, r, st, bytes, store);
@@ -170,7 +205,13 @@ fn at_stage<W: Write>(printer: &mut W, r: Receiver, st: Step, bytes: &[u8], stor
 }
 
 // One step, with the bytes that it has.
-pub(crate) fn play<W: Write>(printer: &mut W, e: Ends, st: Step, bytes: &[u8], store: &mut [u8]) -> io::Result<Ends> {
+pub(crate) fn play<W: Write>(
+    printer: &mut W,
+    e: Ends,
+    st: Step,
+    bytes: &[u8],
+    store: &mut [u8],
+) -> io::Result<Ends> {
     let mut next = e;
     let kind = st.kind;
     let s = e.sender;

@@ -11,12 +11,7 @@ pub(crate) fn say_kind<W: Write>(printer: &mut W, kind: u32) -> io::Result<()> {
 }
 
 // A word, filled up to one length, and two numbers.
-pub(crate) fn say_answer<W: Write>(
-    printer: &mut W,
-    word: &str,
-    a: u64,
-    b: u64,
-) -> io::Result<()> {
+pub(crate) fn say_answer<W: Write>(printer: &mut W, word: &str, a: u64, b: u64) -> io::Result<()> {
     write!(printer, "{word}{a} {b}")
 }
 

@@ -21,7 +21,7 @@ ring_ends c =
     omega (arith, (here_here).ring_ends, c.rings_bytes-start.ensures)
 
 -- what is held with the new item is little
-little : (c : Else-not-store) → 
+little : (c : Else-not-store) →
     let a = c.args in
     c.entry-held.result + item_head + length a.bytes.now ≤ most_store
 little c =

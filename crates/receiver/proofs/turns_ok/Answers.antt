@@ -1,5 +1,5 @@
 -- `receiver::turns_ok` meets its contract: after i turns the first i lines' rounds were near, or not. Assumes nothing.
-use Rattle.std.proofs.Common.{ap, arith, refl, sym, ◌-◌, ◌∙◌, ◌≡◌}
+use Rattle.std.proofs.Common.{ap, arith, refl, sym, ◌∙◌, ◌≡◌}
 use Rattle.numbers.specs.Checks.{all_below}
 use Rattle.numbers.proofs.Checks.{all_more}
 use Rattle.receiving.specs.Receiver.{near_ok, turns_ok}

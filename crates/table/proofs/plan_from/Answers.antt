@@ -1,7 +1,6 @@
 -- `table::plan_from` meets its contract: after i turns the first i quanta stand. Assumes nothing.
-use Rattle.std.proofs.Common.{arith, length, length-set, refl, ◌-◌, ◌≡◌}
+use Rattle.std.proofs.Common.{arith, length, length-set, refl, ◌≡◌}
 use Rattle.text.specs.Rows.{most_numbers}
-use Rattle.table.specs.Table.{narrow}
 use Rattle.table.proofs.Making.{quantum_stored, quanta_stored}
 use Rattle.table.proofs.plan_from.Goals as goal
 use Rattle.table.proofs.plan_from.Goals.{Start}

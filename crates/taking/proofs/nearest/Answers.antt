@@ -1,5 +1,5 @@
 -- `taking::nearest` meets its contract: after i turns the best of the first i lines is found. Assumes nothing.
-use Rattle.std.proofs.Common.{ap, arith, sym, ◌-◌, ◌<◌, ◌∙◌, ◌≡◌, ◌≤◌}
+use Rattle.std.proofs.Common.{ap, arith, sym, ◌<◌, ◌∙◌, ◌≡◌, ◌≤◌}
 use Rattle.theory.specs.Sending.{best}
 use Rattle.theory.proofs.Choose.{best_one, best_changed, best_kept}
 use Rattle.taking.proofs.nearest.Invariants.{key}
@@ -20,12 +20,12 @@ loop-i-preserved c =
     let here : c.rounds_ahead-rounds_on.result ≡ k c.loop-i.i = c.rounds_ahead-rounds_on.ensures in
     let least-is : c.loop-i.least ≡ k (best k c.loop-i.i) = inv.3 ∙ ap k inv.2 in
     elim c.if-rounds_on-least.branch [
-      then-rounds_on-least w ↦
-        let lower : k c.loop-i.i < k (best k c.loop-i.i) = omega (arith, w.if-rounds_on-least.true, here, least-is) in
-        (omega arith, omega arith, w.found-is ∙ best_changed k c.loop-i.i lower, w.least-is ∙ here ∙ ap k (sym w.found-is))
-    | else-rounds_on-least w ↦
-        let higher : k (best k c.loop-i.i) ≤ k c.loop-i.i = omega (arith, w.if-rounds_on-least.false, here, least-is) in
-        (omega arith, omega arith, w.found-is ∙ inv.2 ∙ best_kept k c.loop-i.i higher, w.least-is ∙ inv.3 ∙ ap k (sym w.found-is))
+      | then-rounds_on-least w ↦
+          let lower : k c.loop-i.i < k (best k c.loop-i.i) = omega (arith, w.if-rounds_on-least.true, here, least-is) in
+          (omega arith, omega arith, w.found-is ∙ best_changed k c.loop-i.i lower, w.least-is ∙ here ∙ ap k (sym w.found-is))
+      | else-rounds_on-least w ↦
+          let higher : k (best k c.loop-i.i) ≤ k c.loop-i.i = omega (arith, w.if-rounds_on-least.false, here, least-is) in
+          (omega arith, omega arith, w.found-is ∙ inv.2 ∙ best_kept k c.loop-i.i higher, w.least-is ∙ inv.3 ∙ ap k (sym w.found-is))
     ]
 
 pub returns : goal.returns
