@@ -60,6 +60,8 @@ impl House {
         let (mut house, folders) = (House { crates: Vec::new() }, names_in(CRATES)?);
         for line in std::fs::read_to_string(format!("{CRATES}.txt"))?.lines().filter(|line| !line.starts_with('#')) {
             let (name, named) = line.split_once(':').expect("a name, a colon and names");
+            // What is built of the crate may stand behind its name: a static library.
+            let name = name.split_whitespace().next().expect("a name");
             let mut below = BTreeSet::new();
             // the others are libraries of the toolchain
             for one in named.split_whitespace().filter(|one| folders.contains(*one)) {

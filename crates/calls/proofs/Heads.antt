@@ -163,7 +163,7 @@ module _ (r : Receiver) (store : List ℕ) (i : ℕ) (good : receiver_ok r ≡ t
   item_head_lem {kind} is = simp (ne_eqb h.used 0 (λ z. absurd (omega (arith, is.fits))), head_front is) (ap (item_on p i kind) (head_bytes is))
 
   pub data_head_lem : {b : List ℕ} → DataHead r store i b → head ≡ packet b
-  data_head_lem {b} (is, in_range_lem) = item_head_lem is ∙ sym (is_data p b (length b) refl in_range_lem.0 in_range_lem.1 ∙ data_item p i 0 b refl)
+  data_head_lem {b} (is, fits) = item_head_lem is ∙ sym (is_data p b (length b) refl fits.0 fits.1 ∙ data_item p i 0 b refl)
 
   pub marker_head_lem : {round counter : ℕ} (m : MarkerHead r store i round counter) → head ≡ marker (length m.bytes) (marker_of i round counter)
   unfolding marker_on
@@ -171,7 +171,7 @@ module _ (r : Receiver) (store : List ℕ) (i : ℕ) (good : receiver_ok r ≡ t
       let n = marker_of i round counter in
       let b = m.bytes in
       let holds : judge (on_number i p.quantum n) n ≡ read.Whole n =
-      sym (both_good i p.quantum n (is_in_range 1 counter p.quantum m.in_range_lem.0 m.in_range_lem.1) refl) in
+      sym (both_good i p.quantum n (is_in_range 1 counter p.quantum m.in_range.0 m.in_range.1) refl) in
       let is : marker_on i p.quantum b ≡ read.Whole n = ap (judged (on_number i p.quantum)) (spelled_reads b i round counter m.spelled) ∙ holds in
       item_head_lem m.head ∙ sym (marker_item p i 1 b (λ z. omega arith) refl) ∙ ap (marker_head (length b)) is
 
@@ -203,7 +203,7 @@ module _ (r : Receiver) (store : List ℕ) (i : ℕ) (good : receiver_ok r ≡ t
             bytes = b;
             head = subst (λ (k : ℕ). HeadIs r store i k b) z is;
             spelled = subst (λ (l : ℕ). MarkerSpelled b l m.round m.counter) on.3 spelled;
-            in_range_lem = (on.1, on.2);
+            in_range = (on.1, on.2);
           }))
 
       go : (t : Bool) → eqb kind 0 ≡ t → (u : Bool) → eqb kind 1 ≡ u

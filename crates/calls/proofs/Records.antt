@@ -124,7 +124,7 @@ unfolding plan_written
 outcome_reads_plan b p is =
     let n = length (plan_bytes p) in
     let out : List ℕ = replicate n 0 in
-    let good = plan_good_lem p is.in_range_lem in
+    let good = plan_good_lem p is.in_range in
     let fits : leb n (length out) ≡ true = le-leb n (length out) (omega (arith, length-replicate {A = ℕ} n 0)) in
     let number : check (plan_ok p) 1 (room (plan_bytes p) out) ≡ 0 = simp (good, fits) in
     let answer : written_number (plan_written p out).answer ≡ 0 = writer_number _ (plan_bytes p) out ∙ number in
@@ -152,7 +152,7 @@ plan_spelled b bytes e =
     let enough = quanta_enough p good in
     let same : first_entries p.lines p.quanta ≡ p.quanta = ap (λ (r : Plan). r.quanta) w.2 in
     record {
-      in_range_lem = good;
+      in_range = good;
       sixteen = sym (ap length same) ∙ length-append (take p.lines p.quanta) (replicate (16 - p.lines) 0)
           ∙ omega (arith, good.lines, length-take-le p.lines p.quanta enough, length-replicate {A = ℕ} (16 - p.lines) 0);
       rest_zero = λ i h. rw same at (first_then_zeros p.lines p.quanta enough i h);

@@ -349,7 +349,7 @@ outcome_cannot_be r store i = record {
   bad_data = λ zero bad. either (λ b d. bad (rw d.0.length_bytes d.1)) (λ round counter m. omega (arith, m.head.kind_byte));
   bad_marker = λ one bad. either (λ b d. omega (arith, d.0.kind_byte)) (λ round counter m.
       let same = m.head.bytes ∙ ap (first_of (λ k. held_byte r store i (3 + k))) (sym m.head.length_bytes) in
-      bad round counter (subst (λ (b : List ℕ). MarkerSpelled b i round counter) same m.spelled) m.in_range_lem);
+      bad round counter (subst (λ (b : List ℕ). MarkerSpelled b i round counter) same m.spelled) m.in_range);
 }
   where
     either : ((b : List ℕ) → DataHead r store i b → ⊥) → ((round counter : ℕ) → MarkerHead r store i round counter → ⊥) → ItemHead r store i → ⊥

@@ -58,7 +58,7 @@ pub record ReceiverIn (r : Receiver) : Type 0 where
 -- ---- records: numbers in shortest form, one behind another, and no byte over
 
 pub record PlanSpelled (b : List ℕ) (p : Plan) : Type 0 where
-  pub in_range_lem : PlanIn p
+  pub in_range : PlanIn p
   pub sixteen : length p.quanta ≡ 16
   pub rest_zero : ZeroFrom p.lines p.quanta
   pub bytes : b ≡ coded 32 p.lines ++ coded 32 p.max ++ coded 32 p.interval ++ row_bytes (take p.lines p.quanta)
@@ -108,7 +108,7 @@ pub record MarkerHead (r : Receiver) (store : List ℕ) (i round counter : ℕ) 
   pub bytes : List ℕ
   pub head : HeadIs r store i 1 bytes
   pub spelled : MarkerSpelled bytes i round counter
-  pub in_range_lem : From 1 (quantum r.plan i) counter
+  pub in_range : From 1 (quantum r.plan i) counter
 
 abbrev pub ItemHead : Receiver → List ℕ → ℕ → Type 0
 ItemHead r store i = ((b : List ℕ) × DataHead r store i b) ⊎ ((round counter : ℕ) × MarkerHead r store i round counter)

@@ -246,5 +246,5 @@ pub(crate) fn say_left<W: Write>(printer: &mut W, e: Ends, store: &[u8]) -> io::
     text::say_digest(printer, figures::of_sender(s))?;
     text::say_digest(printer, figures::of_receiver(r))?;
     text::say_digest(printer, digest::bytes(store))?;
-    text::say_line_end(printer)
+    text::say(printer, b"\n")
 }

@@ -61,7 +61,7 @@ fn main(rt: HostRuntime) -> io::Result<()> {
     let mut store = [9u8; MOST_STORE];
     let mut printer = rt.stdout();
     if !play(&mut printer, &input[..n], &mut store)? {
-        writeln!(printer, "bad input")?;
+        text::say(&mut printer, b"bad input\n")?;
     }
     Ok(())
 }

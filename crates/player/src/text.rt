@@ -6,6 +6,10 @@ use sending::Sent;
 use std::io;
 use std::io::Write;
 
+pub(crate) fn say<W: Write>(printer: &mut W, words: &[u8]) -> io::Result<()> {
+    printer.write_all(words)
+}
+
 pub(crate) fn say_kind<W: Write>(printer: &mut W, kind: u32) -> io::Result<()> {
     write!(printer, "{kind}")
 }
@@ -18,10 +22,6 @@ pub(crate) fn say_answer<W: Write>(printer: &mut W, word: &str, a: u64, b: u64) 
 // Forty bits, as ten digits.
 pub(crate) fn say_digest<W: Write>(printer: &mut W, digest: u64) -> io::Result<()> {
     write!(printer, " {digest:010x}")
-}
-
-pub(crate) fn say_line_end<W: Write>(printer: &mut W) -> io::Result<()> {
-    writeln!(printer)
 }
 
 pub(crate) fn say_sent<W: Write>(printer: &mut W, answer: Sent) -> io::Result<()> {
