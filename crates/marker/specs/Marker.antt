@@ -28,9 +28,9 @@ field s next = onward (reading_of 32 s) s (Refused 5) next
 
 unfoldable pub record_read : List ℕ → MarkerRead
 record_read s =
-    field s (λ line after_Line.
-    field after_Line (λ round after-round.
-    field after-round (λ counter over.
+    field s (λ line after_line.
+    field after_line (λ round after_round.
+    field after_round (λ counter over.
     cond (eqb (length over) 0) (Whole (marker_of line round counter)) (Refused 5))))
 
 abbrev pub marker_bytes : Marker → List ℕ

@@ -39,7 +39,8 @@ pub fn read_record(s: &[u8]) -> MarkerRead
     let Reading::Number(counter, c) = numbers::read_number(after_round) else {
         return MarkerRead::Refused(5);
     };
-    if c < after_round.len() {
+    let over = c < after_round.len();
+    if over {
         return MarkerRead::Refused(5);
     }
     MarkerRead::Whole(Marker {

@@ -42,10 +42,10 @@ quanta_read (suc lines) i p s = field p.max most_quantum s (λ q rest. quanta_re
 
 unfoldable pub plan_read : List ℕ → PlanRead
 plan_read s =
-    field least_lines most_lines s (λ n after-n.
-    field least_max most_max after-n (λ max after-max.
-    field least_interval most_interval after-max (λ interval after-interval.
-    quanta_read n 0 (bare n max interval) after-interval)))
+    field least_lines most_lines s (λ n after_n.
+    field least_max most_max after_n (λ max after_max.
+    field least_interval most_interval after_max (λ interval after_interval.
+    quanta_read n 0 (bare n max interval) after_interval)))
 
 -- ---- writing
 

@@ -203,7 +203,8 @@ fn arrive(own: u32, r: Receiver, line: u32, kind: u8, bytes: &[u8], store: &mut 
         × (store.new ≡ (arrival_of own r line kind bytes.now store.old).store) }
 {
     let number = placed(r, line, store.len());
-    if number != 0 {
+    let misplaced = number != 0;
+    if misplaced {
         return not_stored(r, number);
     }
     if own != 0 {

@@ -62,7 +62,8 @@ pub fn tell(quantum: u32, round: u32, counter: u32, m: Marker) -> Report
     ensures { result ≡ report_of quantum round counter m }
 {
     let rounds = rounds_ahead(m.round, round);
-    if 0x8000_0000 <= rounds {
+    let behind = 0x8000_0000 <= rounds;
+    if behind {
         return Report::Behind;
     }
     if rounds == 0 {

@@ -144,7 +144,8 @@ pub fn read_row(line: &[u8]) -> Row
         value = value * 10 + (b - 48) as u64;
         digits += 1;
     }
-    if digits == 0 {
+    let blank = digits == 0;
+    if blank {
         return no_row();
     }
     values[count] = value;

@@ -66,12 +66,12 @@ returns-in_default-read_number-2 c =
     counter_refused _ _ _ (line (goal.at.returns-in_default-read_number-2 c).In-Number) _ _ (round (goal.at.returns-in_default-read_number-2 c).In-Number-read_number)
     (rw (rest c.in-Number.a (record_of (goal.at.returns-in_default-read_number-2 c).In-Number), rest c.in-Number-read_number.b (after_line_of (goal.at.returns-in_default-read_number-2 c).In-Number)) at (sym c.read_number-3.ensures ∙ c.in_default-read_number-2.is))
 
-pub returns-then-c-after_round : goal.returns-then-c-after_round
-returns-then-c-after_round c =
-    let more = rw (rest c.in-Number.a (record_of (goal.at.returns-then-c-after_round c).In-Number), rest c.in-Number-read_number.b (after_line_of (goal.at.returns-then-c-after_round c).In-Number)) at c.if-c-after_round.true in
-    bytes_over _ _ _ (line (goal.at.returns-then-c-after_round c).In-Number) _ _ (round (goal.at.returns-then-c-after_round c).In-Number-read_number) _ _ (counter (goal.at.returns-then-c-after_round c).In-Number-read_number-2) (omega (arith, more, length-drop c.in-Number-read_number-2.c (after_round_of (goal.at.returns-then-c-after_round c).In-Number-read_number)))
+pub returns-then-over : goal.returns-then-over
+returns-then-over c =
+    let more = rw (rest c.in-Number.a (record_of (goal.at.returns-then-over c).In-Number), rest c.in-Number-read_number.b (after_line_of (goal.at.returns-then-over c).In-Number)) at c.if-over.true in
+    bytes_over _ _ _ (line (goal.at.returns-then-over c).In-Number) _ _ (round (goal.at.returns-then-over c).In-Number-read_number) _ _ (counter (goal.at.returns-then-over c).In-Number-read_number-2) (omega (arith, more, length-drop c.in-Number-read_number-2.c (after_round_of (goal.at.returns-then-over c).In-Number-read_number)))
 
 pub returns : goal.returns
 returns c =
-    let whole = rw (rest c.in-Number.a (record_of (goal.at.returns c).In-Number), rest c.in-Number-read_number.b (after_line_of (goal.at.returns c).In-Number)) at c.if-c-after_round.false in
+    let whole = rw (rest c.in-Number.a (record_of (goal.at.returns c).In-Number), rest c.in-Number-read_number.b (after_line_of (goal.at.returns c).In-Number)) at c.if-over.false in
     three_numbers _ _ _ (line (goal.at.returns c).In-Number) _ _ (round (goal.at.returns c).In-Number-read_number) _ _ (counter (goal.at.returns c).In-Number-read_number-2) (omega (arith, whole, length-drop c.in-Number-read_number-2.c (after_round_of (goal.at.returns c).In-Number-read_number)))

@@ -1,5 +1,5 @@
 -- `table::line_of` meets its contract. Assumes nothing.
-use Rattle.std.proofs.Common.{arith, length, refl, ◌+◌, ◌≤◌}
+use Rattle.std.proofs.Common.{rules, arith, length, refl, ◌+◌, ◌≤◌}
 use Rattle.table.specs.Table.{most_text}
 use Rattle.table.specs.Steps.{row_made}
 use Rattle.table.proofs.Making.{plan_stage, packet_stage, ended_stage, no_room, with_room}
@@ -31,12 +31,12 @@ packet_line-requires c = fits (goal.at.packet_line-requires c).Else-out-at-lt-MO
 pub returns-in-PlanToCome : goal.returns-in-PlanToCome
 returns-in-PlanToCome c =
     let a = c.args in
-    with_room a.t (row_made a.t a.row) a.at a.out.now (fits (goal.at.returns-in-PlanToCome c).Else-out-at-lt-MOST_TEXT) (rw (← plan_stage a.t a.row c.in-PlanToCome.is) c.plan_line.ensures)
+    with_room a.t (row_made a.t a.row) a.at a.out.now (fits (goal.at.returns-in-PlanToCome c).Else-out-at-lt-MOST_TEXT) (rw (← plan_stage a.t a.row c.in-PlanToCome.is) (search rules))
 
 pub returns-in-Packets : goal.returns-in-Packets
 returns-in-Packets c =
     let a = c.args in
-    with_room a.t (row_made a.t a.row) a.at a.out.now (fits (goal.at.returns-in-Packets c).Else-out-at-lt-MOST_TEXT) (rw (← packet_stage a.t a.row c.in-Packets.is) c.packet_line.ensures)
+    with_room a.t (row_made a.t a.row) a.at a.out.now (fits (goal.at.returns-in-Packets c).Else-out-at-lt-MOST_TEXT) (rw (← packet_stage a.t a.row c.in-Packets.is) (search rules))
 
 pub returns-in-Ended : goal.returns-in-Ended
 returns-in-Ended c =

@@ -105,14 +105,14 @@ loop-i-preserved c =
       ap row_of (sym (at_digit line before i k v c.loop-i-test.true c.if-b-eq32.false (told (goal.at.loop-i-preserved c).Else-not-more))) ∙ c.loop-i.invariant.6,
     )
 
-pub returns-then-digits-eq0 : goal.returns-then-digits-eq0
-returns-then-digits-eq0 c =
+pub returns-then-blank : goal.returns-then-blank
+returns-then-blank c =
     let line = c.args.line.now in
     let before = take c.loop-i.count c.loop-i.values in
     let i = c.loop-i.i in
     let k = c.loop-i.digits in
     let v = c.loop-i.value in
-    c.no_row-then-digits-eq0.ensures ∙ bad_row (at_bad_end line before i k v c.loop-i-test.false c.if-digits-eq0.true) ∙ c.loop-i.invariant.6
+    c.no_row-then-blank.ensures ∙ bad_row (at_bad_end line before i k v c.loop-i-test.false c.if-blank.true) ∙ c.loop-i.invariant.6
 
 pub returns : goal.returns
 returns c =
@@ -122,4 +122,4 @@ returns c =
     let k = c.loop-i.digits in
     let v = c.loop-i.value in
     last_stored c.loop-i.values c.loop-i.count v c.loop-i.invariant.2 (omega arith) c.loop-i.invariant.5
-    ∙ ap row_of (sym (at_end line before i k v c.loop-i-test.false (omega (arith, c.if-digits-eq0.false)))) ∙ c.loop-i.invariant.6
+    ∙ ap row_of (sym (at_end line before i k v c.loop-i-test.false (omega (arith, c.if-blank.false)))) ∙ c.loop-i.invariant.6
