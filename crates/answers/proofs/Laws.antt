@@ -1,6 +1,8 @@
 -- C reads from an answer what it says. Assumes nothing.
-use Rattle.std.proofs.Common.{◌≡◌, ℕ, ◌+◌, ◌*◌, ◌/◌, ◌%◌, ◌^◌, ◌<◌, ◌≤◌, Bool, true, false, cond, eqb, sym, refl, ap, ◌∙◌, arith, eq-eqb, ne_eqb, eqb-true}
-use Rattle.numbers.proofs.Checks.{never}
+use Rattle.std.proofs.Common.{◌≡◌, ℕ, ◌+◌, ◌*◌, ◌/◌, ◌%◌, ◌^◌, ◌<◌, ◌≤◌, Bool, Result, true, false, cond, eqb, sym, refl, ap, ◌∙◌, arith, eq-eqb, ne_eqb, eqb-true}
+use Rattle.numbers.specs.declared.Refusal.{Refusal}
+use Rattle.numbers.specs.Refusals.{number, refusal_of, number_of}
+use Rattle.numbers.proofs.Checks.{never, small, named, small_number}
 use Rattle.answers.specs.Answers.{refusal, told, refused_in, number_in, told_in, line_in}
 
 module _ (k : ℕ) (small : k < 256) where
@@ -12,6 +14,10 @@ module _ (k : ℕ) (small : k < 256) where
   -- and names no line
   pub refusal_no_line : 256 ≤ line_in (refusal k)
   refusal_no_line = omega arith
+
+-- of the table it is the refusal itself
+pub refusal_back : (r : Refusal) → (refused_in (refusal (number r)) ≡ true) × (refusal_of (number_in (refusal (number r))) ≡ r)
+refusal_back r = let read = refusal_read (number r) (omega (arith, small r)) in (read.0, ap refusal_of read.1 ∙ named r)
 
 not_refused : (w : ℕ) → w / 256 % 2 ≡ 0 → refused_in w ≡ false
 unfolding refused_in
@@ -58,3 +64,7 @@ told_back number h = go (eqb number 0) refl
     go : (t : Bool) → eqb number 0 ≡ t → cond (refused_in (cond t 0 (refusal number))) (number_in (cond t 0 (refusal number))) 0 ≡ number
     go true e = rw (below_256 0 (omega arith)) (omega (arith, eqb-true number 0 e))
     go false e = rw (refusal_read number h).0 (refusal_read number h).1
+
+-- of an answer, whatever else it says
+pub answer_back : {A : Type 0} (answer : Result A Refusal) → told_in (told (number_of answer)) ≡ number_of answer
+answer_back answer = told_back (number_of answer) (omega (arith, small_number answer))

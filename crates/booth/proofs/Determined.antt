@@ -15,9 +15,9 @@ use denote.Triple.Entry.{Args}
 use Rattle.numbers.proofs.Tight.{only, OneAnswer, OneOutcome}
 use Rattle.plan.specs.declared.Plan.{Plan}
 use Rattle.answers.specs.Answers.{told}
-use Rattle.plan_record.specs.Record.{plan_read, plan_written}
+use Rattle.plan_record.specs.Record.{plan_read, plan_written, plan_of}
 use Rattle.sending.specs.declared.Sender.{Sender}
-use Rattle.sending.specs.Sender.{open_sender, send_of, marker_from}
+use Rattle.sending.specs.Sender.{open_sender, send_of, marker_from, sender_of}
 use Rattle.booth.specs.Exports.{exported, exported_sent}
 use Rattle.booth.proofs.stripes_write_marker.Reads as write-marker
 use Rattle.booth.proofs.stripes_write_marker.Kinds as write-marker-kinds
@@ -36,6 +36,7 @@ use Rattle.booth.specs.contracts.stripes_read_plan as thin-read
 use Rattle.booth.specs.contracts.stripes_send as thin-send
 use Rattle.booth.specs.contracts.stripes_open as thin-open
 use Rattle.booth.specs.contracts.stripes_marker as thin-marker
+use Rattle.numbers.specs.Refusals.{number_of}
 
 pub write_marker_tight : OneOutcome 1 write-marker-kinds.ps write-marker-kinds.r write-marker.Post (λ κs e. e.1.1.1.0.now)
 write_marker_tight κs a z z' e e' p q = (only p.0 q.0, only p.1 q.1)
@@ -86,7 +87,7 @@ write_tight p out r r' end end' x y = (only x.0 y.0, only x.1 y.1)
 -- ---- a plan read into the one that C holds: its number and the plan as it leaves it
 
 abbrev ReadSays : List ℕ → ℕ → Plan → Type 0
-ReadSays bytes r next = (r ≡ told (plan_read bytes).number) × (next ≡ (plan_read bytes).plan)
+ReadSays bytes r next = (r ≡ told (number_of (plan_read bytes))) × (next ≡ plan_of (plan_read bytes))
 
 pub read_clause :
     {M : Type 1} {𝓤 : Ura M} (𝓛 : Logic 𝓤) (mem : Memory → SProp 𝓤) (run : Routine → Fun 𝓤) (κs : Lfts 2)
@@ -100,7 +101,7 @@ read_tight bytes r r' next next' p q = (only p.0 q.0, only p.1 q.1)
 -- ---- opening: its number and the sender as it leaves it
 
 abbrev OpenSays : List ℕ → ℕ → Sender → Type 0
-OpenSays bytes r next = (r ≡ told (open_sender (plan_read bytes).plan).number) × (next ≡ (open_sender (plan_read bytes).plan).sender)
+OpenSays bytes r next = (r ≡ told (number_of (open_sender (plan_of (plan_read bytes))))) × (next ≡ sender_of (open_sender (plan_of (plan_read bytes))))
 
 pub open_clause :
     {M : Type 1} {𝓤 : Ura M} (𝓛 : Logic 𝓤) (mem : Memory → SProp 𝓤) (run : Routine → Fun 𝓤) (κs : Lfts 2)

@@ -7,10 +7,9 @@ use mathlib.Core.Bool.{Bool, true, false, cond}
 use mathlib.Core.Logic.{◌⊎◌, inl, inr}
 use mathlib.Core.List.{List}
 use lib.ListN.{length}
-use Rattle.numbers.specs.declared.Written.{Written}
-use Rattle.numbers.specs.declared.Written.TheVariants as written
+use Rattle.numbers.specs.Writing.{Written, outcome}
+use Rattle.std.specs.Prelude.{Ok, Err}
 use Rattle.numbers.specs.Coding.{coded}
-use Rattle.numbers.specs.Writing.{outcome}
 use Rattle.numbers.specs.Writing as writing
 use Rattle.numbers.proofs.Checks.{never}
 use Rattle.numbers.proofs.Laws.{coded_short, answered_length, refused_out}
@@ -18,30 +17,29 @@ use Rattle.plan.specs.declared.Plan.{Plan}
 use Rattle.answers.specs.Answers.{told, refused_in}
 use Rattle.answers.proofs.Laws.{below_256, has_number}
 use Rattle.plan.specs.Plan.{at, no_plan, plan_ok}
-use Rattle.plan_record.specs.declared.PlanRead.{PlanRead}
-use Rattle.plan_record.specs.Record.{refused_plan, plan_read, plan_bytes, plan_written}
+use Rattle.plan_record.specs.Record.{refused_plan, plan_read, plan_bytes, plan_written, plan_of}
 use Rattle.plan_record.proofs.Laws.{not_written, as_written}
 use Rattle.plan_record.proofs.Promises.{fifty_four_bytes, read_or_refused}
 use Rattle.marker.specs.declared.Marker.{Marker}
 use Rattle.marker.specs.Marker.{marker_of, marker_bytes, marker_written}
 use Rattle.sending.specs.declared.Sender.{Sender}
-use Rattle.sending.specs.declared.SenderOpened.{SenderOpened}
-use Rattle.sending.specs.declared.Sent.{Sent}
-use Rattle.sending.specs.declared.Sent.TheVariants as sent
-use Rattle.sending.specs.Sender.{closed_sender, opened_sender, open_sender, send_of, line_marker, marker_from}
+use Rattle.sending.specs.Sender.{SenderOpened, Sent, closed_sender, opened_sender, open_sender, send_of, line_marker, marker_from, sender_of}
 use Rattle.sending.proofs.Promises.{refused_stays, sent_on_line}
 use Rattle.booth.specs.Exports.{exported, exported_sent, copied}
 use Rattle.booth.proofs.Small.{marker_short}
+use Rattle.numbers.specs.Refusals.{number_of}
+use Rattle.numbers.specs.declared.Refusal.TheVariants as refusal
+use Rattle.numbers.specs.Checks.{Checked}
 
 -- a writer
-kept : (number : ℕ) (bytes out : List ℕ) → length bytes ≤ 99 → refused_in (exported (outcome number bytes out).answer) ≡ true → (outcome number bytes out).out ≡ out
-kept number bytes out short = go (outcome number bytes out).answer refl
+kept : (row : Checked) (bytes out : List ℕ) → length bytes ≤ 99 → refused_in (exported (outcome row bytes out).answer) ≡ true → (outcome row bytes out).out ≡ out
+kept row bytes out short = go (outcome row bytes out).answer refl
   where
-    go : (w : Written) → (outcome number bytes out).answer ≡ w → refused_in (exported (outcome number bytes out).answer) ≡ true → (outcome number bytes out).out ≡ out
-    go (written.Length n) e h =
-        let small : n < 256 = omega (arith, answered_length number bytes out n e) in
+    go : (w : Written) → (outcome row bytes out).answer ≡ w → refused_in (exported (outcome row bytes out).answer) ≡ true → (outcome row bytes out).out ≡ out
+    go (Ok n) e h =
+        let small : n < 256 = omega (arith, answered_length row bytes out n e) in
         absurd (never (sym h ∙ ap (λ (w : Written). refused_in (exported w)) e ∙ below_256 n small))
-    go (written.Refused k) e h = refused_out number bytes out k e
+    go (Err k) e h = refused_out row bytes out k e
 
 pub number_refused : (v : ℕ) (out : List ℕ) → refused_in (exported (writing.written (coded 32 v) out).answer) ≡ true → (writing.written (coded 32 v) out).out ≡ out
 number_refused v out = kept _ (coded 32 v) out (omega (arith, coded_short 32 v))
@@ -62,7 +60,7 @@ plan_refused p out = go (plan_ok p) refl
     go false bad = rw (← (not_written p out bad).1) (λ h. refl)
 
 pub copy_refused : (s out : List ℕ) → refused_in (exported (copied s out).answer) ≡ true → (copied s out).out ≡ out
-copy_refused s out = plan_refused (plan_read s).plan out
+copy_refused s out = plan_refused (plan_of (plan_read s)) out
 
 pub send_refused : (s : Sender) (n : ℕ) → refused_in (exported_sent (send_of s n).answer) ≡ true → (send_of s n).next ≡ s
 send_refused s n = go (send_of s n).answer refl
@@ -72,25 +70,25 @@ send_refused s n = go (send_of s n).answer refl
     flag false = omega arith
 
     go : (t : Sent) → (send_of s n).answer ≡ t → refused_in (exported_sent (send_of s n).answer) ≡ true → (send_of s n).next ≡ s
-    go (sent.Went line due) e h =
-        let small : line + cond due 16 0 < 256 = omega (arith, sent_on_line s n line due e, flag due) in
-        absurd (never (sym h ∙ ap (λ (t : Sent). refused_in (exported_sent t)) e ∙ below_256 (line + cond due 16 0) small))
-    go (sent.Refused k) e h = refused_stays s n k e
+    go (Ok went) e h =
+        let small : went.line + cond went.due 16 0 < 256 = omega (arith, sent_on_line s n went.line went.due e, flag went.due) in
+        absurd (never (sym h ∙ ap (λ (t : Sent). refused_in (exported_sent t)) e ∙ below_256 (went.line + cond went.due 16 0) small))
+    go (Err k) e h = refused_stays s n k e
 
-pub read_refused : (b : List ℕ) → refused_in (told (plan_read b).number) ≡ true → (plan_read b).plan ≡ no_plan
+pub read_refused : (b : List ℕ) → refused_in (told (number_of (plan_read b))) ≡ true → plan_of (plan_read b) ≡ no_plan
 read_refused b h = go (read_or_refused b)
   where
-    go : ((plan_read b).number ≡ 0) ⊎ (plan_read b ≡ refused_plan) → (plan_read b).plan ≡ no_plan
-    go (inl good) = absurd (has_number (plan_read b).number h good)
-    go (inr bad) = ap (λ (r : PlanRead). r.plan) bad
+    go : (number_of (plan_read b) ≡ 0) ⊎ (plan_read b ≡ refused_plan) → plan_of (plan_read b) ≡ no_plan
+    go (inl good) = absurd (has_number (number_of (plan_read b)) h good)
+    go (inr bad) = ap plan_of bad
 
-pub open_refused : (p : Plan) → refused_in (told (open_sender p).number) ≡ true → (open_sender p).sender ≡ closed_sender
+pub open_refused : (p : Plan) → refused_in (told (number_of (open_sender p))) ≡ true → sender_of (open_sender p) ≡ closed_sender
 unfolding open_sender
 open_refused p = go (plan_ok p)
   where
     opened : Bool → SenderOpened
-    opened t = cond t (record { number = 0; sender = opened_sender p }) (record { number = 1; sender = closed_sender })
+    opened t = cond t (Ok (opened_sender p)) (Err refusal.Plan)
 
-    go : (t : Bool) → refused_in (told (opened t).number) ≡ true → (opened t).sender ≡ closed_sender
+    go : (t : Bool) → refused_in (told (number_of (opened t))) ≡ true → sender_of (opened t) ≡ closed_sender
     go true h = absurd (has_number 0 h refl)
     go false h = refl

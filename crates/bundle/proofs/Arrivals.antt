@@ -19,7 +19,7 @@ use Rattle.theory.proofs.Histories.{at_field, at_all}
 use Rattle.receiving.specs.declared.Receiver.{Receiver}
 use Rattle.receiving.specs.declared.Turns.{Turns}
 use Rattle.receiving.specs.Receiver.{turn_of, receiver_ok, store_fits}
-use Rattle.receiving.specs.Arriving.{Arrival, place_of, arrival, room_number}
+use Rattle.receiving.specs.Arriving.{Arrival, place_of, arrival, room_check}
 use Rattle.receiving.specs.Stage.{Stage, stage}
 use Rattle.receiving.proofs.Stages.{Sound}
 use Rattle.receiving.proofs.Storing.{Lands, left, data_lands, marker_lands, landed_holds, landed_sound, landed_plan, landed_turns}
@@ -32,6 +32,7 @@ use Rattle.bundle.specs.Words.{bytes_of}
 use Rattle.bundle.proofs.Meeting.{theirs, Fits, AllFit, Shows, Far, Roads}
 use Rattle.bundle.proofs.Marks.{mark, mark_read}
 use Rattle.bundle.proofs.Roads.{fit_append}
+use Rattle.numbers.specs.Refusals.{number_of}
 
 -- ---- a parcel, packet or marker
 
@@ -65,7 +66,7 @@ module _ (p : Plan) (w : World) (s : State) (m : Far p w.receiver w.store s) (i 
   bytes = (as_entry parcel).bytes
 
   abbrev ok : Bool
-  ok = eqb a.arrived.number 0
+  ok = eqb (number_of a.arrived.answer) 0
 
   lands : Lands w.receiver i kind bytes w.store a
   lands = land_lands w.receiver w.store i parcel
@@ -99,11 +100,11 @@ module _ (p : Plan) (w : World) (s : State) (m : Far p w.receiver w.store s) (i 
       })
 
   comes : (rest : List Item) → (s.line i).road ≡ x ∷ rest
-      → Far p a.arrived.next a.store (run (theirs p) s (steps_of (land_seen i parcel a.arrived.number)))
+      → Far p a.arrived.next a.store (run (theirs p) s (steps_of (land_seen i parcel (number_of a.arrived.answer))))
   comes rest e = go ok refl
     where
       seen_as : Bool → Event
-      seen_as t = cond t (stored i parcel) (turned_away i parcel a.arrived.number)
+      seen_as t = cond t (stored i parcel) (turned_away i parcel (number_of a.arrived.answer))
 
       none : (t : Bool) → cond (t && false) (x ∷ []) [] ≡ []
       none true = refl
@@ -123,7 +124,7 @@ module _ (p : Plan) (w : World) (s : State) (m : Far p w.receiver w.store s) (i 
 
 -- what passes every check is stored where there is room
 room_stored : (r : Receiver) (i kind : ℕ) (b store : List ℕ) → item_head + length b ≤ r.rings.size - (place_of r i).used
-    → (arrival (room_number r i b) r i kind b store).arrived.number ≡ 0
+    → number_of (arrival (room_check r i b) r i kind b store).arrived.answer ≡ 0
 unfolding arrival
 room_stored r i kind b store has = simp (le-leb (item_head + length b) (r.rings.size - (place_of r i).used) has)
 
@@ -142,7 +143,7 @@ module _ (p : Plan) (w : World) (s : State) (roads : Roads p w.road s.line) wher
   -- a parcel that is under way is stored where its ring has room
   pub land_stored : plan_ok p ≡ true → Sound (stage w.receiver w.store) → w.receiver.plan ≡ p → (i : ℕ) (x : Parcel) (rest : List Parcel)
       → w.road i ≡ x ∷ rest → item_head + length (bytes_of x) ≤ w.receiver.rings.size - (place_of w.receiver i).used
-      → (landing w.receiver w.store i x).arrived.number ≡ 0
+      → number_of (landing w.receiver w.store i x).arrived.answer ≡ 0
   land_stored good sound plan i x rest e free = go (s.line i).road refl (sym (roads.same i) ∙ e)
     where
       r : Receiver
@@ -152,18 +153,18 @@ module _ (p : Plan) (w : World) (s : State) (roads : Roads p w.road s.line) wher
       whole = eq-eqb _ _ sound.fits
 
       Stored : Parcel → Type 0
-      Stored x = item_head + length (bytes_of x) ≤ r.rings.size - (place_of r i).used → (landing r w.store i x).arrived.number ≡ 0
+      Stored x = item_head + length (bytes_of x) ≤ r.rings.size - (place_of r i).used → number_of (landing r w.store i x).arrived.answer ≡ 0
 
       on : (y : Item) → Fits p y → i < p.lines → Stored (parcel_of p i y)
       on (T.packet k b) fits line has =
           let stored = data_stored r i b w.store sound.good whole (rw plan line) fits.0 (rw plan fits.1) in
-          ap (λ (a : Arrival). a.arrived.number) (sym stored) ∙ room_stored r i 0 b w.store has
+          ap (λ (a : Arrival). number_of a.arrived.answer) (sym stored) ∙ room_stored r i 0 b w.store has
       on (T.marker k n) fits line has =
           let b = mark_of p i n in
           let stored = marker_stored r i b w.store sound.good whole (rw plan line) (mark p good i line n) (rw plan (mark_read p good i line n)) in
-          ap (λ (a : Arrival). a.arrived.number) (sym stored) ∙ room_stored r i 1 b w.store has
+          ap (λ (a : Arrival). number_of a.arrived.answer) (sym stored) ∙ room_stored r i 1 b w.store has
 
-      go : (road : List Item) → (s.line i).road ≡ road → map (parcel_of p i) road ≡ x ∷ rest → (landing r w.store i x).arrived.number ≡ 0
+      go : (road : List Item) → (s.line i).road ≡ road → map (parcel_of p i) road ≡ x ∷ rest → number_of (landing r w.store i x).arrived.answer ≡ 0
       go [] q h = absurd (nil≢cons h)
       go (y ∷ more) q h =
           let all : AllFit p (y ∷ more) = rw q at (roads.fit i) in

@@ -21,9 +21,8 @@ use Rattle.theory.specs.Demands.{Fit, Lowest, Shows, Promises}
 use Rattle.theory.proofs.Proved.{promises}
 use Rattle.theory.proofs.Carried.{carried_by_packets}
 use Rattle.sending.specs.declared.Sender.{Sender}
-use Rattle.sending.specs.declared.Sent.TheVariants.{Went}
+use Rattle.sending.specs.Sender.{went_to, opened_sender, open_sender, not_sent, send_of, marker_from, sender_of}
 use Rattle.sending.specs.declared.SendResult.{SendResult}
-use Rattle.sending.specs.Sender.{opened_sender, open_sender, not_sent, send_of, marker_from}
 use Rattle.sending.specs.InTheory.{is_packet, in_theory, figures_of}
 use Rattle.sending.proofs.Laws.{as_asked}
 use Rattle.sending.proofs.Steps.{packet_goes, other_refused}
@@ -33,6 +32,7 @@ use Rattle.bundle.specs.Log.{mark_of}
 use Rattle.bundle.specs.Worlds.{World, Call, sends, asks, arrives, loses, takes, send_seen, seen, booth_after, calls, sent_in}
 use Rattle.bundle.specs.Booth.{carried_by, ended_by, and_packet, Keeps, EveryHistory}
 use Rattle.bundle.proofs.Histories.{along, calls_and, each_and, ask_sends, arrive_sends, lose_sends, take_sends}
+use Rattle.numbers.specs.declared.Refusal.TheVariants as refusal
 
 -- a sender on a plan sends a packet in range, and nothing else
 pub sent_now : (p : Plan) (w : World) → On p w.sender → (x : List ℕ) → is_packet p (length x) ≡ true → sent_by (seen w (sends x)) ≡ x ∷ []
@@ -110,7 +110,7 @@ module _ (p : Plan) (start : Figures) where
 
 -- ---- from the opening
 
-module _ (p : Plan) (good : plan_ok p ≡ true) (sixteen : length p.quanta ≡ most_lines) (w : World) (is_open : w.sender ≡ (open_sender p).sender) where
+module _ (p : Plan) (good : plan_ok p ≡ true) (sixteen : length p.quanta ≡ most_lines) (w : World) (is_open : w.sender ≡ sender_of (open_sender p)) where
   abbrev kept : Plan
   kept = trimmed p
 
@@ -175,10 +175,10 @@ module _ (p : Plan) (good : plan_ok p ≡ true) (sixteen : length p.quanta ≡ m
           ap (λ (f : Figures). first_due theirs f (length x)) (ran.agrees more same).1 ∙ ap (first_due theirs end) (sym last)
           ∙ promised.dues_agree (figures_of w.sender) opens_so more n more_fit
 
-      answers : (send_of s (length x)).answer ≡ Went s.line (S.due_after theirs more n)
+      answers : (send_of s (length x)).answer ≡ went_to s.line (S.due_after theirs more n)
       answers =
           ap (λ (r : SendResult). r.answer) (packet_goes s on.good (length x) (rw on.plan packet))
-          ∙ ap (λ (q : Plan). Went s.line (first_due (in_theory q) (figures_of s) (length x))) on.plan ∙ ap (Went s.line) due
+          ∙ ap (λ (q : Plan). went_to s.line (first_due (in_theory q) (figures_of s) (length x))) on.plan ∙ ap (went_to s.line) due
 
       -- the packet's own length does not count before it is sent
       before : S.carried theirs more n ≡ carried_by kept packets
@@ -189,7 +189,7 @@ module _ (p : Plan) (good : plan_ok p ≡ true) (sixteen : length p.quanta ≡ m
           × (carried_by kept (and_packet packets x) i < ended_by kept (and_packet packets x) * quantum kept i + charge_of (line_plan kept i) kept.max)
       shares e i l = rw (one_more packets x) (promised.share more n more_fit (rw (before, last) e) i l)
 
-    refuses : (size : ℕ) → is_packet kept size ≡ false → send_of s size ≡ not_sent s 4
+    refuses : (size : ℕ) → is_packet kept size ≡ false → send_of s size ≡ not_sent s refusal.Length
     refuses size e = other_refused s on.good size (rw on.plan e)
 
     lowest : Lowest theirs (carried_by kept packets) s.line

@@ -20,10 +20,10 @@ use Rattle.ring.specs.Ring.{item_bytes}
 use Rattle.ring.specs.Queue.{Entry, row_of}
 use Rattle.ring.proofs.Laws.{held_length}
 use Rattle.ring.proofs.Promises.{read_back}
-use Rattle.receiving.specs.declared.Taken.{Taken}
-use Rattle.receiving.specs.declared.Taken.TheVariants.{Data, Refused}
+use Rattle.receiving.specs.Taking.{TakeAnswer, take_of}
+use Rattle.receiving.specs.declared.Taken.TheVariants.{Data}
+use Rattle.std.specs.Prelude.{Ok, Err}
 use Rattle.receiving.specs.Receiver.{held_of}
-use Rattle.receiving.specs.Taking.{take_of}
 use Rattle.bundle.specs.Worlds.{World, Call, takes, take_seen, seen, call, calls}
 use Rattle.bundle.specs.Log.{steps_of, log, entry_of}
 use Rattle.bundle.specs.Words.{and_then, Opens, RoomFor, queue_at, queue_bytes, held_below, NoPacket}
@@ -32,12 +32,13 @@ use Rattle.bundle.proofs.Histories.{log_append}
 use Rattle.bundle.proofs.Senders.{kept_good}
 use Rattle.bundle.proofs.Takes.{says, writes, take_says, take_leaves}
 use Rattle.bundle.proofs.Runs.{after_and, near_and, some, within, not_behind, reaches}
+use Rattle.numbers.specs.declared.Refusal.TheVariants as refusal
 
 -- a take that has room is a step
 step_says : (end out : List ℕ) (i : ℕ) (items : List Item) (x : ℕ) → RoomFor items out → steps_of (take_seen end (says out i items x)) ≡ take ∷ []
 step_says end out i [] x room = refl
 step_says end out i (packet k b ∷ rest) x room =
-    ap (λ (t : Bool). steps_of (take_seen end (cond t (Data i (length b)) (Refused 8)))) (le-leb (length b) (length out) room)
+    ap (λ (t : Bool). steps_of (take_seen end (cond t (Ok (Data i (length b))) (Err refusal.ShortOutput)))) (le-leb (length b) (length out) room)
 step_says end out i (marker k m ∷ rest) x room = refl
 
 -- a queue without packets, as the ring holds it
@@ -92,7 +93,7 @@ module _ (p : Plan) (size : ℕ) (store : List ℕ) (o : Opens p size store) whe
       let e = answers h out (near_first h (takes out) (map takes outs) near) in
       let end : List ℕ = (take_of (world h).receiver (world h).store out).out in
       let first : steps_of (seen (world h) (takes out)) ≡ take ∷ [] =
-      ap (λ (t : Taken). steps_of (take_seen end t)) e ∙ step_says end out (current plan (state h)) (front plan (state h)).store (front plan (state h)).position room.0 in
+      ap (λ (t : TakeAnswer). steps_of (take_seen end t)) e ∙ step_says end out (current plan (state h)) (front plan (state h)).store (front plan (state h)).position room.0 in
       let on : calls (opened p size store) (and_then h (takes out)) ≡ call (world h) (takes out) = after_and p size store o h (takes out) in
       let near' : Near p size store (and_then h (takes out) ++ map takes outs) = rw (append_assoc h (takes out ∷ []) (map takes outs)) near in
       let rest = takes_log outs (and_then h (takes out)) near' room.1 in

@@ -12,7 +12,7 @@ use Rattle.marker.specs.Marker.{record_read, judge}
 use Rattle.theory.specs.Sending.{best, better}
 use Rattle.theory.specs.System as T
 use Rattle.report.specs.Report.{marker_on, ahead, report_of}
-use Rattle.sending.specs.Sender.{sender_ok, open_sender, next_sender, send_number, send_of, marker_from}
+use Rattle.sending.specs.Sender.{sender_ok, open_sender, next_sender, send_checks, send_of, marker_from}
 use Rattle.ring.specs.Ring.{from_ring, into_ring, held, stored, front_of}
 use Rattle.receiving.specs.Receiver.{first_from, line_at, rings_ok, turns_ok, receiver_ok, open_receiver, ring_of, with_ring}
 use Rattle.receiving.specs.Arriving.{arrival, arrival_of}
@@ -60,7 +60,7 @@ pub example :
     × (log opened history
     ≡ T.send one ∷ T.send two ∷ T.arrive 0 ∷ T.lose 0 ∷ T.take ∷ T.ask 0 ∷ T.arrive 0 ∷ T.take ∷ T.send three ∷ T.arrive 1
     ∷ T.send four ∷ T.arrive 0 ∷ T.send five ∷ T.lose 0 ∷ T.take ∷ T.take ∷ [])
-unfolding open_sender send_of send_number sender_ok counters_ok plan_ok all_below next_sender charge_of marker_from outcome row_bytes coded open_receiver
+unfolding open_sender send_of send_checks sender_ok counters_ok plan_ok all_below next_sender charge_of marker_from outcome row_bytes coded open_receiver
     store_ok arrival arrival_of receiver_ok rings_ok turns_ok line_at first_from ahead ring_of with_ring stored into_ring held from_ring front_of
     marker_on judge record_read reading_of report_of take_of head_on item_on round_now best better
 example = (refl, refl, refl, refl, refl)

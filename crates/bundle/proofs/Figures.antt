@@ -10,7 +10,7 @@ use Rattle.marker.specs.Marker.{marker_of}
 use Rattle.theory.specs.Sending.{round_at, counter_at}
 use Rattle.theory.proofs.Choose.{div_mono}
 use Rattle.theory.proofs.Counting.{round_after_lem, counter_after_lem}
-use Rattle.report.specs.declared.Report.TheVariants.{Missing}
+use Rattle.std.specs.Prelude.{Some}
 use Rattle.report.specs.Report.{ahead, missing, report_of}
 use Rattle.report.proofs.Laws.{same_round, later_round}
 
@@ -52,7 +52,7 @@ module _ (q x m i : ℕ) (some : 1 ≤ q) (le : x ≤ m) (near : m / q < x / q +
       let whole : x / q + between ≡ m / q = omega (arith, div_mono q x m le) in
       omega (arith, div-add-mod' x q, div-add-mod' m q, mod-lt x some, mod-lt m some, add-mul (x / q) between q, ap (λ (k : ℕ). k * q) whole)
 
-  pub report_at : report_of q (round_at q x) (counter_at q x) (marker_of i (round_at q m) (counter_at q m)) ≡ Missing (m - x)
+  pub report_at : report_of q (round_at q x) (counter_at q x) (marker_of i (round_at q m) (counter_at q m)) ≡ Some (m - x)
   report_at = told (ℕ_discrete between 0)
     where
       close : ahead (round_at q m) (round_at q x) < half
@@ -61,6 +61,6 @@ module _ (q x m i : ℕ) (some : 1 ≤ q) (le : x ≤ m) (near : m / q < x / q +
       sum : missing q (round_at q x) (counter_at q x) (marker_of i (round_at q m) (counter_at q m)) ≡ m - x
       sum = rw between_is missing_is
 
-      told : Dec (between ≡ 0) → report_of q (round_at q x) (counter_at q x) (marker_of i (round_at q m) (counter_at q m)) ≡ Missing (m - x)
-      told (yes none) = sym (same_round q _ _ _ close (between_is ∙ none) (not_behind none)) ∙ ap Missing sum
-      told (no some-rounds) = sym (later_round q _ _ _ close (λ z. some-rounds (sym between_is ∙ z))) ∙ ap Missing sum
+      told : Dec (between ≡ 0) → report_of q (round_at q x) (counter_at q x) (marker_of i (round_at q m) (counter_at q m)) ≡ Some (m - x)
+      told (yes none) = sym (same_round q _ _ _ close (between_is ∙ none) (not_behind none)) ∙ ap Some sum
+      told (no some-rounds) = sym (later_round q _ _ _ close (λ z. some-rounds (sym between_is ∙ z))) ∙ ap Some sum

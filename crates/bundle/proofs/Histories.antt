@@ -5,19 +5,19 @@ use mathlib.Core.Bool.{Bool, true, false, cond}
 use mathlib.Core.List.{List, [], ◌∷◌, ◌++◌, map, map-append, append_assoc, append-nil}
 use mathlib.Core.Path.{◌≡◌, refl, sym, ap, ◌∙◌}
 use lib.Dec.{eqb}
-use Rattle.numbers.specs.declared.Written.{Written}
-use Rattle.numbers.specs.declared.Written.TheVariants as written
+use Rattle.numbers.specs.Writing.{Written}
+use Rattle.std.specs.Prelude.{Ok, Err}
 use Rattle.theory.specs.System as T
 use Rattle.theory.proofs.Histories.{packets_append}
 use Rattle.sending.specs.Sender.{marker_from}
-use Rattle.receiving.specs.declared.Taken.{Taken}
+use Rattle.receiving.specs.Taking.{TakeAnswer, take_of}
 use Rattle.receiving.specs.declared.Taken.TheVariants as taken
-use Rattle.receiving.specs.Taking.{take_of}
 use Rattle.bundle.specs.Events.{Parcel, Event, sent, marked, stored, turned_away, lost, nothing, handed, missing, behind, waiting, refused}
 use Rattle.bundle.specs.Events.{Handed, sent_by, handed_by, reported_by, each, sum}
 use Rattle.bundle.specs.Worlds.{World, Call, asks, arrives, loses, takes, landing, land_seen, ask_seen, arrive_seen, lose_seen, take_seen, seen, call, calls, events, sent_in, handed_in, handed_out, reported_in}
 use Rattle.bundle.specs.Log.{steps_of, log}
 use Rattle.bundle.specs.Words.{and_then}
+use Rattle.numbers.specs.Refusals.{number, number_of}
 
 -- ---- the one induction: what holds before any call, and with one call more wherever it holds, holds of every history
 
@@ -106,8 +106,8 @@ log_packets h w = packets_of (events w h)
 
 module _ (P : Event → Type 0) where
   pub ask_cases : (i : ℕ) (out : List ℕ) (t : Written) → ((b : List ℕ) → P (marked i b)) → ((k : ℕ) → P (refused k)) → P (ask_seen i out t)
-  ask_cases i out (written.Length n) m r = m _
-  ask_cases i out (written.Refused k) m r = r k
+  ask_cases i out (Ok n) m r = m _
+  ask_cases i out (Err refusal) m r = r (number refusal)
 
   pub land_cases : (i : ℕ) (x : Parcel) (number : ℕ) → P (stored i x) → ((k : ℕ) → P (turned_away i x k)) → P (land_seen i x number)
   land_cases i x number s t = go (eqb number 0)
@@ -119,19 +119,19 @@ module _ (P : Event → Type 0) where
   pub arrive_cases : (w : World) (i : ℕ) (road : List Parcel) → ((x : Parcel) → P (stored i x)) → ((x : Parcel) (k : ℕ) → P (turned_away i x k))
       → P nothing → P (arrive_seen w i road)
   arrive_cases w i [] s t n = n
-  arrive_cases w i (x ∷ rest) s t n = land_cases i x (landing w.receiver w.store i x).arrived.number (s x) (t x)
+  arrive_cases w i (x ∷ rest) s t n = land_cases i x (number_of (landing w.receiver w.store i x).arrived.answer) (s x) (t x)
 
   pub lose_cases : (i : ℕ) (road : List Parcel) → ((x : Parcel) → P (lost i x)) → P nothing → P (lose_seen i road)
   lose_cases i [] l n = n
   lose_cases i (x ∷ rest) l n = l x
 
-  pub take_cases : (out : List ℕ) (t : Taken) → ((i : ℕ) → P (waiting i)) → ((i : ℕ) (b : List ℕ) → P (handed i b)) → ((i m : ℕ) → P (missing i m))
+  pub take_cases : (out : List ℕ) (t : TakeAnswer) → ((i : ℕ) → P (waiting i)) → ((i : ℕ) (b : List ℕ) → P (handed i b)) → ((i m : ℕ) → P (missing i m))
       → ((i : ℕ) → P (behind i)) → ((k : ℕ) → P (refused k)) → P (take_seen out t)
-  take_cases out (taken.Waiting i) w h m b r = w i
-  take_cases out (taken.Data i n) w h m b r = h i _
-  take_cases out (taken.Missing i k) w h m b r = m i k
-  take_cases out (taken.Behind i) w h m b r = b i
-  take_cases out (taken.Refused k) w h m b r = r k
+  take_cases out (Ok (taken.Waiting i)) w h m b r = w i
+  take_cases out (Ok (taken.Data i n)) w h m b r = h i _
+  take_cases out (Ok (taken.Missing i k)) w h m b r = m i k
+  take_cases out (Ok (taken.Behind i)) w h m b r = b i
+  take_cases out (Err refusal) w h m b r = r (number refusal)
 
 -- nothing but a send sends
 module _ (w : World) where

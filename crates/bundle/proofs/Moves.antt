@@ -21,6 +21,7 @@ use Rattle.receiving.specs.declared.Turn.{Turn}
 use Rattle.receiving.specs.declared.Turns.{Turns}
 use Rattle.receiving.specs.declared.Receiver.{Receiver}
 use Rattle.receiving.specs.declared.Taken.TheVariants.{Waiting}
+use Rattle.std.specs.Prelude.{Ok}
 use Rattle.receiving.specs.Receiver.{turn_of, line_of, with_turn, round_of, line_at, current_line}
 use Rattle.receiving.specs.Taking.{Stepped, item_on, step_of, round_now, TakeOutcome, taken, take_of}
 use Rattle.receiving.specs.Stage.{Stage, stage, taken_from}
@@ -83,10 +84,10 @@ module _ (p : Plan) (good : plan_ok p ≡ true) (some : 1 ≤ p.lines) (w : Worl
         ∙ ap (λ (q : Plan). taken r c (step_of (line_plan q c) r.rings.size c (line_of r c) out (item_on (line_plan q c) c kind bytes))) m.plan
 
     pub waits : (out : List ℕ) → (s.line c).store ≡ []
-        → take_of r w.store out ≡ record { result = record { answer = Waiting c; next = r }; out = out }
+        → take_of r w.store out ≡ record { result = record { answer = Ok (Waiting c); next = r }; out = out }
     waits out e =
         empty_waits here m.sound out (held [] e)
-        ∙ ap (λ (i : ℕ). record { result = record { answer = Waiting i; next = r }; out = out }) current_is
+        ∙ ap (λ (i : ℕ). record { result = record { answer = Ok (Waiting i); next = r }; out = out }) current_is
 
     abbrev moved : State
     moved = step (theirs p) s take

@@ -11,13 +11,14 @@ use Rattle.plan.proofs.Laws.{in_range_lem, first_ones}
 use Rattle.theory.specs.Sending.{round_at, counter_at}
 use Rattle.theory.specs.System as T
 use Rattle.receiving.specs.declared.Receiver.{Receiver}
-use Rattle.receiving.specs.Receiver.{turn_of, opened_receiver, open_receiver}
+use Rattle.receiving.specs.Receiver.{turn_of, opened_receiver, open_receiver, receiver_of}
 use Rattle.receiving.specs.Stage.{stage}
 use Rattle.receiving.proofs.Opening.{opens_in, is_open, open_sound, open_empty}
 use Rattle.bundle.specs.Words.{Opens}
 use Rattle.bundle.specs.Demands.{opened}
 use Rattle.bundle.proofs.Meeting.{turn_at, Shows, Far, Roads}
 use Rattle.bundle.proofs.Senders.{plan_good_lem}
+use Rattle.numbers.specs.Refusals.{number_of}
 
 -- figures where nothing is carried
 first_round : (q : ℕ) → 1 ≡ round_at q 0
@@ -27,10 +28,10 @@ first_counter : (q : ℕ) → q ≡ counter_at q 0
 first_counter q = rw (zero-mod q) (omega arith)
 
 module _ (p : Plan) (size : ℕ) (store : List ℕ) (o : Opens p size store) where
-  opens : (open_receiver p size).number ≡ 0
+  opens : (number_of (open_receiver p size)) ≡ 0
   opens = opens_in p size o.plan o.room
 
-  is : (open_receiver p size).receiver ≡ opened_receiver p size
+  is : (receiver_of (open_receiver p size)) ≡ opened_receiver p size
   is = is_open p size opens
 
   few : p.lines ≤ most_lines
@@ -39,7 +40,7 @@ module _ (p : Plan) (size : ℕ) (store : List ℕ) (o : Opens p size store) whe
   first_turn : (i : ℕ) → i < p.lines → turn_of (opened_receiver p size).turns i ≡ turn_at (quantum (trimmed p) i) 0
   first_turn i line = λ k. record { round = (first_ones p.lines few i line ∙ first_round (quantum (trimmed p) i)) k; counter = first_counter (quantum (trimmed p) i) k }
 
-  shows : Shows (trimmed p) (stage (open_receiver p size).receiver store) (λ i. 0) (λ i. [])
+  shows : Shows (trimmed p) (stage (receiver_of (open_receiver p size)) store) (λ i. 0) (λ i. [])
   shows = record {
     plan = ap (λ (r : Receiver). r.plan) is;
     sound = open_sound p size store o.sixteen opens o.long;

@@ -25,10 +25,10 @@ use Rattle.theory.proofs.Histories.{at_field, run_append, outs_append, near_spli
 use Rattle.theory.proofs.Lossless.{lossless_near}
 use Rattle.ring.specs.Queue.{Entry}
 use Rattle.receiving.specs.declared.Receiver.{Receiver}
-use Rattle.receiving.specs.declared.Taken.{Taken}
-use Rattle.receiving.specs.declared.Taken.TheVariants.{Waiting, Data, Missing, Behind, Refused}
+use Rattle.receiving.specs.Taking.{TakeAnswer, take_of}
+use Rattle.receiving.specs.declared.Taken.TheVariants.{Waiting, Data, Missing, Behind}
+use Rattle.std.specs.Prelude.{Ok, Err}
 use Rattle.receiving.specs.Receiver.{open_receiver}
-use Rattle.receiving.specs.Taking.{take_of}
 use Rattle.receiving.proofs.Opening.{opens_in, is_open}
 use Rattle.bundle.specs.Events.{Parcel, lost_by, stored_by, each}
 use Rattle.bundle.specs.Worlds.{World, Call, takes, take_seen, seen, call, events, handed_in}
@@ -45,6 +45,9 @@ use Rattle.bundle.proofs.Takes.{says, writes}
 use Rattle.bundle.proofs.Runs.{bytes_append, plan_sound, far, system_and, near_and, some, roads, reaches}
 use Rattle.bundle.proofs.Queues.{from_opening, size_kept, queues_kept}
 use Rattle.bundle.proofs.Drained.{none_queued, answers, leaves, queued, used_is, drained}
+use Rattle.numbers.specs.Refusals.{number_of}
+use Rattle.numbers.specs.declared.Refusal.TheVariants as refusal
+use Rattle.numbers.specs.declared.Refusal.{Refusal}
 
 -- ---- lists
 
@@ -58,25 +61,25 @@ names_says : (out : List ℕ) (i : ℕ) (items : List Item) (x : ℕ) → Names 
 names_says out i [] x = refl
 names_says out i (packet k b ∷ rest) x = go (leb (length b) (length out))
   where
-    go : (t : Bool) → Names i (cond t (Data i (length b)) (Refused 8))
+    go : (t : Bool) → Names i (cond t (Ok (Data i (length b))) (Err refusal.ShortOutput))
     go true = refl
     go false = refl
 names_says out i (marker k m ∷ rest) x = refl
 
 -- one with room for the largest packet is not refused
-data_not_refused : {i n k : ℕ} → Data i n ≡ Refused k → ⊥
+data_not_refused : {i n : ℕ} {k : Refusal} → ◌≡◌ {A = TakeAnswer} (Ok (Data i n)) (Err k) → ⊥
 data_not_refused e = let z : ◌≡◌ {A = ℕ} 0 1 = cc in omega arith
 
-missing_not_refused : {i m k : ℕ} → Missing i m ≡ Refused k → ⊥
+missing_not_refused : {i m : ℕ} {k : Refusal} → ◌≡◌ {A = TakeAnswer} (Ok (Missing i m)) (Err k) → ⊥
 missing_not_refused e = let z : ◌≡◌ {A = ℕ} 0 1 = cc in omega arith
 
-waiting_not_refused : {i k : ℕ} → Waiting i ≡ Refused k → ⊥
+waiting_not_refused : {i : ℕ} {k : Refusal} → ◌≡◌ {A = TakeAnswer} (Ok (Waiting i)) (Err k) → ⊥
 waiting_not_refused e = let z : ◌≡◌ {A = ℕ} 0 1 = cc in omega arith
 
-room_says : (p : Plan) (out : List ℕ) (i : ℕ) (items : List Item) (x : ℕ) → AllFit p items → p.max ≤ length out → (k : ℕ) → says out i items x ≡ Refused k → ⊥
+room_says : (p : Plan) (out : List ℕ) (i : ℕ) (items : List Item) (x : ℕ) → AllFit p items → p.max ≤ length out → (k : Refusal) → says out i items x ≡ Err k → ⊥
 room_says p out i [] x fit room k e = waiting_not_refused e
 room_says p out i (packet j b ∷ rest) x fit room k e =
-    data_not_refused (ap (λ (t : Bool). cond t (Data i (length b)) (Refused 8)) (sym (le-leb (length b) (length out) (le_trans fit.0.1 room))) ∙ e)
+    data_not_refused (ap (λ (t : Bool). cond t (Ok (Data i (length b))) (Err refusal.ShortOutput)) (sym (le-leb (length b) (length out) (le_trans fit.0.1 room))) ∙ e)
 room_says p out i (marker j m ∷ rest) x fit room k e = missing_not_refused e
 
 -- ---- takes lose nothing
@@ -92,13 +95,13 @@ takes_lose p (out ∷ outs) w s i =
     rest : List Step
     rest = log (call w (takes out)) (map takes outs)
 
-    go : (t : Taken) → ((run p (step p s take) rest).line i).lost ≡ (s.line i).lost → ((run p s rest).line i).lost ≡ (s.line i).lost
+    go : (t : TakeAnswer) → ((run p (step p s take) rest).line i).lost ≡ (s.line i).lost → ((run p s rest).line i).lost ≡ (s.line i).lost
         → ((run p s (steps_of (take_seen (take_of w.receiver w.store out).out t) ++ rest)).line i).lost ≡ (s.line i).lost
-    go (Waiting j) one none = one
-    go (Data j n) one none = one
-    go (Missing j m) one none = one
-    go (Behind j) one none = one
-    go (Refused k) one none = none
+    go (Ok (Waiting j)) one none = one
+    go (Ok (Data j n)) one none = one
+    go (Ok (Missing j m)) one none = one
+    go (Ok (Behind j)) one none = one
+    go (Err k) one none = none
 
 module _ (p : Plan) (size : ℕ) (store : List ℕ) (o : Opens p size store) where
   abbrev plan : S.Plan
@@ -262,7 +265,7 @@ module _ (p : Plan) (size : ℕ) (store : List ℕ) (o : Opens p size store) whe
       (none_queued (trimmed p) i ((state g).line i).store
       (subst (λ (l : List Step). W.NoPacketIn ((F.after plan l).line i).store) (sym (drained p size store o h outs many room near)) ((far p size store o).cleared (steps h) marks i line)))
 
-  opens : (open_receiver p size).number ≡ 0
+  opens : (number_of (open_receiver p size)) ≡ 0
   opens = opens_in p size o.plan o.room
 
   valid : Valid p size store

@@ -14,22 +14,18 @@ use Rattle.plan.specs.declared.LinePlan.{LinePlan}
 use Rattle.plan.specs.Plan.{quantum, line_plan, trimmed}
 use Rattle.plan.proofs.Laws.{trimmed_quantum}
 use Rattle.plan.specs.Limits.{most_lines}
-use Rattle.marker.specs.declared.MarkerRead.TheVariants.{Whole}
+use Rattle.std.specs.Prelude.{Ok, Err, Some, None}
 use Rattle.marker.specs.Marker.{marker_of}
-use Rattle.report.specs.declared.Report.{Report}
-use Rattle.report.specs.declared.Report.TheVariants as report
-use Rattle.report.specs.Report.{marker_on, report_of}
+use Rattle.report.specs.Report.{Report, marker_on, report_of}
 use Rattle.report.proofs.Laws.{on_line, read_on_line}
 use Rattle.ring.specs.Ring.{onto}
 use Rattle.ring.specs.Queue.{Entry}
 use Rattle.ring.proofs.Promises.{read_back}
-use Rattle.sending.specs.declared.Sent.{Sent}
-use Rattle.sending.specs.declared.Sent.TheVariants as went
-use Rattle.sending.specs.Sender.{send_of, marker_from}
+use Rattle.sending.specs.Sender.{Sent, send_of, marker_from}
 use Rattle.receiving.specs.declared.Receiver.{Receiver}
-use Rattle.receiving.specs.declared.Taken.{Taken}
+use Rattle.receiving.specs.Taking.{TakeAnswer}
 use Rattle.receiving.specs.declared.Taken.TheVariants as taken
-use Rattle.receiving.specs.Receiver.{current_line, open_receiver}
+use Rattle.receiving.specs.Receiver.{current_line, open_receiver, receiver_of}
 use Rattle.receiving.specs.Arriving.{Arrival}
 use Rattle.receiving.specs.declared.Line.{Line}
 use Rattle.receiving.specs.Taking.{Head, nothing, packet as head_packet, marker as head_marker, no_item, taken_number, marker_head, item_on, stays, past, charged_turn, told_step, step_of, TakeOutcome, take_of}
@@ -51,6 +47,8 @@ use Rattle.bundle.specs.Words.{and_then}
 use Rattle.bundle.specs.Queues.{Good, AllGood, KeepsQueues, EveryHistory}
 use Rattle.bundle.proofs.Histories.{along, calls_and, each_and, sum_and, ask_cases, lose_cases}
 use Rattle.bundle.proofs.Arrivals.{land_lands, land_valid}
+use Rattle.numbers.specs.Refusals.{number_of}
+use Rattle.numbers.specs.declared.Refusal.TheVariants as refusal
 
 abbrev here : World → Stage
 here w = stage w.receiver w.store
@@ -77,18 +75,18 @@ idle s ok e none empty = record {
 }
 
 -- a parcel that is stored may be there
-land_good : (r : Receiver) (store : List ℕ) (i : ℕ) (x : Parcel) → (landing r store i x).arrived.number ≡ 0 → Good r.plan i (as_entry x)
+land_good : (r : Receiver) (store : List ℕ) (i : ℕ) (x : Parcel) → number_of (landing r store i x).arrived.answer ≡ 0 → Good r.plan i (as_entry x)
 land_good r store i (packet b) e = inl (refl, data_in_range r i b store e)
 land_good r store i (marker b) e =
     let w = marker_whole r i b store e in
     let m = w.0 in
     let on = on_line i (quantum r.plan i) b m w.1 in
-    inr (refl, (m.round, m.counter, on.0 ∙ ap (λ (line : ℕ). Whole (marker_of line m.round m.counter)) on.3, (on.1, on.2)))
+    inr (refl, (m.round, m.counter, on.0 ∙ ap (λ (line : ℕ). Ok (marker_of line m.round m.counter)) on.3, (on.1, on.2)))
 
 module _ (w : World) (ok : Sound (here w)) where
   -- a parcel that lands
-  land_goes : (i : ℕ) (x : Parcel) → let a : Arrival = landing w.receiver w.store i x in Goes (here w) (left a) (land_seen i x a.arrived.number)
-  land_goes i x = go (eqb a.arrived.number 0) refl
+  land_goes : (i : ℕ) (x : Parcel) → let a : Arrival = landing w.receiver w.store i x in Goes (here w) (left a) (land_seen i x (number_of a.arrived.answer))
+  land_goes i x = go (eqb (number_of a.arrived.answer) 0) refl
     where
       a : Arrival
       a = landing w.receiver w.store i x
@@ -100,13 +98,13 @@ module _ (w : World) (ok : Sound (here w)) where
       bytes = (as_entry x).bytes
 
       seen_as : Bool → Event
-      seen_as t = cond t (event.stored i x) (event.turned_away i x a.arrived.number)
+      seen_as t = cond t (event.stored i x) (event.turned_away i x (number_of a.arrived.answer))
 
       none : (t : Bool) (j : ℕ) → taken_by j (seen_as t) ≡ 0
       none true j = refl
       none false j = refl
 
-      item : (t : Bool) → eqb a.arrived.number 0 ≡ t → (j : ℕ) → Stored-on j i kind bytes a ≡ stored_by j (seen_as t)
+      item : (t : Bool) → eqb (number_of a.arrived.answer) 0 ≡ t → (j : ℕ) → Stored-on j i kind bytes a ≡ stored_by j (seen_as t)
       item true q j = rw q (by (eqb i j))
         where
           by : (u : Bool) → cond (u && true) (as_entry x ∷ []) [] ≡ cond u (as_entry x ∷ []) []
@@ -120,9 +118,9 @@ module _ (w : World) (ok : Sound (here w)) where
 
       landed_size : Lands w.receiver i kind bytes w.store a → a.arrived.next.rings.size ≡ w.receiver.rings.size
       landed_size (inl (has, e)) = ap (λ (a : Arrival). a.arrived.next.rings.size) e
-      landed_size (inr (some, e)) = ap (λ (a : Arrival). a.arrived.next.rings.size) e
+      landed_size (inr (some, k, e)) = ap (λ (a : Arrival). a.arrived.next.rings.size) e
 
-      good : (t : Bool) → eqb a.arrived.number 0 ≡ t → (j : ℕ) → AllGood w.receiver.plan j (stored_by j (seen_as t))
+      good : (t : Bool) → eqb (number_of a.arrived.answer) 0 ≡ t → (j : ℕ) → AllGood w.receiver.plan j (stored_by j (seen_as t))
       good true q j = by (eqb i j) refl
         where
           by : (u : Bool) → eqb i j ≡ u → AllGood w.receiver.plan j (cond u (as_entry x ∷ []) [])
@@ -130,7 +128,7 @@ module _ (w : World) (ok : Sound (here w)) where
           by false same = tt
       good false q j = tt
 
-      go : (t : Bool) → eqb a.arrived.number 0 ≡ t → Goes (here w) (left a) (seen_as t)
+      go : (t : Bool) → eqb (number_of a.arrived.answer) 0 ≡ t → Goes (here w) (left a) (seen_as t)
       go t q =
           let lands = land_lands w.receiver w.store i x in
           record {
@@ -155,26 +153,26 @@ module _ (w : World) (ok : Sound (here w)) where
         good = λ i. rw (none_stored o.out o.result.answer i) tt;
       }
     where
-      taken_is : (end : List ℕ) (t : Taken) (i : ℕ) → taken_by i (take_seen end t) ≡ stage.taken_from i t
-      taken_is end (taken.Waiting j) i = refl
-      taken_is end (taken.Data j n) i = refl
-      taken_is end (taken.Missing j m) i = refl
-      taken_is end (taken.Behind j) i = refl
-      taken_is end (taken.Refused k) i = refl
+      taken_is : (end : List ℕ) (t : TakeAnswer) (i : ℕ) → taken_by i (take_seen end t) ≡ stage.taken_from i t
+      taken_is end (Ok (taken.Waiting j)) i = refl
+      taken_is end (Ok (taken.Data j n)) i = refl
+      taken_is end (Ok (taken.Missing j m)) i = refl
+      taken_is end (Ok (taken.Behind j)) i = refl
+      taken_is end (Err k) i = refl
 
-      none_stored : (end : List ℕ) (t : Taken) (i : ℕ) → stored_by i (take_seen end t) ≡ []
-      none_stored end (taken.Waiting j) i = refl
-      none_stored end (taken.Data j n) i = refl
-      none_stored end (taken.Missing j m) i = refl
-      none_stored end (taken.Behind j) i = refl
-      none_stored end (taken.Refused k) i = refl
+      none_stored : (end : List ℕ) (t : TakeAnswer) (i : ℕ) → stored_by i (take_seen end t) ≡ []
+      none_stored end (Ok (taken.Waiting j)) i = refl
+      none_stored end (Ok (taken.Data j n)) i = refl
+      none_stored end (Ok (taken.Missing j m)) i = refl
+      none_stored end (Ok (taken.Behind j)) i = refl
+      none_stored end (Err k) i = refl
 
   goes : (e : Call) → Goes (here w) (stage_after w e) (seen w e)
   goes (sends x) = go (send_of w.sender (length x)).answer
     where
       go : (t : Sent) → Goes (here w) (here w) (send_seen x t)
-      go (went.Went i due) = idle (here w) ok _ (λ j. refl) (λ j. refl)
-      go (went.Refused k) = idle (here w) ok _ (λ j. refl) (λ j. refl)
+      go (Ok went) = idle (here w) ok _ (λ j. refl) (λ j. refl)
+      go (Err k) = idle (here w) ok _ (λ j. refl) (λ j. refl)
   goes (asks i out) =
       ask_cases (Goes (here w) (here w)) i _ (marker_from w.sender i out).answer
       (λ b. idle (here w) ok (event.marked i b) (λ j. refl) (λ j. refl)) (λ k. idle (here w) ok (event.refused k) (λ j. refl) (λ j. refl))
@@ -250,14 +248,14 @@ not_nine p size i l out nothing item e = omega arith
 not_nine p size i l out no_item item e = item refl
 not_nine p size i l out (head_packet b) item e = go (leb (length b) (length out)) e
   where
-    go : (t : Bool) → taken_number (cond t (record { step = record { answer = taken.Data i (length b); line = past size l (length b) (charged_turn p l.turn (length b)) }; out = onto b out }) (stays l (taken.Refused 8) out)).step.answer ≡ 9 → ⊥
+    go : (t : Bool) → taken_number (cond t (record { step = record { answer = Ok (taken.Data i (length b)); line = past size l (length b) (charged_turn p l.turn (length b)) }; out = onto b out }) (stays l (Err refusal.ShortOutput) out)).step.answer ≡ 9 → ⊥
     go true e = omega arith
     go false e = omega arith
 not_nine p size i l out (head_marker n m) item e = go (report_of p.quantum l.turn.round l.turn.counter m) e
   where
     go : (t : Report) → taken_number (told_step size i l n m t).answer ≡ 9 → ⊥
-    go report.Behind e = omega arith
-    go (report.Missing x) e = omega arith
+    go None e = omega arith
+    go (Some x) e = omega arith
 
 -- tells what cannot be an item from the rest
 abbrev is_item : Head → ℕ
@@ -272,15 +270,15 @@ good_item p i e (inl (zero-kind, range)) none =
     let z : ◌≡◌ {A = ℕ} 1 0 = ap is_item (is ∙ none) in omega arith
 good_item p i e (inr (mark, (round, counter, read, range))) none =
     let m = marker_of i round counter in
-    let on : marker_on i (quantum p i) e.bytes ≡ Whole m = read_on_line i (quantum p i) e.bytes m read range.0 range.1 refl in
+    let on : marker_on i (quantum p i) e.bytes ≡ Ok m = read_on_line i (quantum p i) e.bytes m read range.0 range.1 refl in
     let is = sym (ap (marker_head (length e.bytes)) on) ∙ marker_item (line_plan p i) i e.kind e.bytes (λ z. omega arith) mark in
     let z : ◌≡◌ {A = ℕ} 1 0 = ap is_item (is ∙ none) in omega arith
 
 module _ (s : Stage) (ok : Sound s) (out : List ℕ) where
-  abbrev answer : Taken
+  abbrev answer : TakeAnswer
   answer = (take_of s.receiver s.store out).result.answer
 
-  finds_item : (es : List Entry) → HoldsOn (current_line s.receiver) s es → AllGood s.receiver.plan (current_line s.receiver) es → answer ≡ taken.Refused 9 → ⊥
+  finds_item : (es : List Entry) → HoldsOn (current_line s.receiver) s es → AllGood s.receiver.plan (current_line s.receiver) es → answer ≡ Err refusal.Store → ⊥
   finds_item [] h g e = let z : ◌≡◌ {A = ℕ} 0 9 = ap (λ (t : TakeOutcome). taken_number t.result.answer) (sym (empty_waits s ok out h)) ∙ ap taken_number e in omega arith
   finds_item (x ∷ es) h g e =
       not_nine _ _ _ _ out _ (good_item s.receiver.plan (current_line s.receiver) x g.0)
@@ -288,10 +286,10 @@ module _ (s : Stage) (ok : Sound s) (out : List ℕ) where
 
 -- ---- from the opening
 
-module _ (p : Plan) (size : ℕ) (sixteen : length p.quanta ≡ most_lines) (opens : (open_receiver p size).number ≡ 0)
-    (w : World) (is_opened : w.receiver ≡ (open_receiver p size).receiver) (long : length w.store ≡ p.lines * size) where
+module _ (p : Plan) (size : ℕ) (sixteen : length p.quanta ≡ most_lines) (opens : (number_of (open_receiver p size)) ≡ 0)
+    (w : World) (is_opened : w.receiver ≡ receiver_of (open_receiver p size)) (long : length w.store ≡ p.lines * size) where
   abbrev first : Stage
-  first = stage (open_receiver p size).receiver w.store
+  first = stage (receiver_of (open_receiver p size)) w.store
 
   begins : first ≡ here w
   begins = ap (λ (r : Receiver). stage r w.store) (sym is_opened)

@@ -7,17 +7,15 @@ use mathlib.Core.Path.{◌≡◌, refl, sym, ap, ◌∙◌, subst, fun_ext}
 use native.Mathlib.Omega.{arith}
 use borrow.Author.Tests.{eq-eqb, ne_eqb}
 use lib.ListN.{length, take, drop}
-use Rattle.numbers.specs.declared.Written.{Written}
-use Rattle.numbers.specs.declared.Written.TheVariants as written
+use Rattle.numbers.specs.Writing.{Written}
+use Rattle.std.specs.Prelude.{Ok, Err}
 use Rattle.plan.specs.declared.Plan.{Plan}
 use Rattle.theory.specs.Sending.{choose}
 use Rattle.theory.specs.System.{Item, Line, State, put, arrived, arrive_of, dropped, lose_of, fetched, at_line, current, step, run}
 use Rattle.theory.specs.System as T
 use Rattle.theory.proofs.Lines.{dropped_position, dropped_store, fetched_road}
 use Rattle.theory.proofs.Histories.{at_field, at_all}
-use Rattle.sending.specs.declared.Sent.{Sent}
-use Rattle.sending.specs.declared.Sent.TheVariants as went
-use Rattle.sending.specs.Sender.{send_of, marker_from}
+use Rattle.sending.specs.Sender.{Sent, went_to, send_of, marker_from}
 use Rattle.receiving.specs.Stage.{stage}
 use Rattle.bundle.specs.Events.{Parcel, Event}
 use Rattle.receiving.specs.Taking.{take_of}
@@ -25,6 +23,7 @@ use Rattle.bundle.specs.Worlds.{World, Call, sends, asks, arrives, loses, takes,
 use Rattle.bundle.specs.Log.{steps_of, mark_of, parcel_of}
 use Rattle.bundle.proofs.Meeting.{theirs, Fits, AllFit, Shows, Far, Roads}
 use Rattle.bundle.proofs.Histories.{ask_cases, land_cases, lose_cases, take_cases}
+use Rattle.numbers.specs.Refusals.{number_of}
 
 module _ (p : Plan) where
   pub fit_append : (xs ys : List Item) → AllFit p xs → AllFit p ys → AllFit p (xs ++ ys)
@@ -57,10 +56,10 @@ module _ (p : Plan) where
 -- lines have carried; a marker that is written is on a line, and shows what that line has carried.
 abbrev pub Booths : Plan → World → State → Call → Type 0
 Booths p w s (sends x) =
-    (i : ℕ) (due : Bool) → (send_of w.sender (length x)).answer ≡ went.Went i due
+    (i : ℕ) (due : Bool) → (send_of w.sender (length x)).answer ≡ went_to i due
     → (i ≡ choose (theirs p) s.carries) × (i < p.lines) × (1 ≤ length x) × (length x ≤ p.max)
 Booths p w s (asks i out) =
-    (n : ℕ) → (marker_from w.sender i out).answer ≡ written.Length n
+    (n : ℕ) → (marker_from w.sender i out).answer ≡ Ok n
     → (i < p.lines) × (take n (marker_from w.sender i out).out ≡ mark_of p i (s.carries i))
 Booths p w s (arrives i) = Unit {0}
 Booths p w s (loses i) = Unit {0}
@@ -95,19 +94,19 @@ module _ (p : Plan) (w : World) (s : State) (r : Roads p w.road s.line) where
   call_roads (sends x) goes = go (send_of w.sender (length x)).answer refl
     where
       go : (a : Sent) → (send_of w.sender (length x)).answer ≡ a → After (send_seen x a)
-      go (went.Went i due) e = let g = goes i due e in rw (← g.0) (joined i (T.packet s.sent x) g.1 (g.2, g.3))
-      go (went.Refused k) e = r
+      go (Ok went) e = let g = goes went.line went.due e in rw (← g.0) (joined went.line (T.packet s.sent x) g.1 (g.2, g.3))
+      go (Err k) e = r
   call_roads (asks i out) marks = go (marker_from w.sender i out).answer refl
     where
       go : (a : Written) → (marker_from w.sender i out).answer ≡ a → After (ask_seen i (marker_from w.sender i out).out a)
-      go (written.Length n) e = let g = marks n e in rw g.1 (joined i (T.marker s.sent (s.carries i)) g.0 tt)
-      go (written.Refused k) e = r
+      go (Ok n) e = let g = marks n e in rw g.1 (joined i (T.marker s.sent (s.carries i)) g.0 tt)
+      go (Err k) e = r
   call_roads (arrives i) b = subst (λ (road : List Parcel). After (arrive_seen w i road)) (sym (r.same i)) (go (s.line i).road refl)
     where
       go : (road : List Item) → (s.line i).road ≡ road → After (arrive_seen w i (map (parcel_of p i) road))
       go [] e = r
       go (x ∷ rest) e =
-          land_cases After i (parcel_of p i x) (landing w.receiver w.store i (parcel_of p i x)).arrived.number
+          land_cases After i (parcel_of p i x) (number_of (landing w.receiver w.store i (parcel_of p i x)).arrived.answer)
           (left_road i arrived x rest e (ap (λ (road : List Item). (arrive_of road (s.line i)).road) e))
           (λ k. left_road i dropped x rest e (ap (λ (road : List Item). (lose_of road (s.line i)).road) e))
   call_roads (loses i) b = subst (λ (road : List Parcel). After (lose_seen i road)) (sym (r.same i)) (go (s.line i).road refl)
@@ -136,8 +135,8 @@ module _ (p : Plan) (w : World) (s : State) (far : Far p w.receiver w.store s) w
   send_far x = go (send_of w.sender (length x)).answer
     where
       go : (a : Sent) → Still (send_seen x a)
-      go (went.Went i due) = still (choose (theirs p) s.carries) (put (T.packet s.sent x)) (λ l. refl) (λ l. refl)
-      go (went.Refused k) = far
+      go (Ok went) = still (choose (theirs p) s.carries) (put (T.packet s.sent x)) (λ l. refl) (λ l. refl)
+      go (Err k) = far
 
   pub ask_far : (i : ℕ) (out : List ℕ) → Still (seen w (asks i out))
   ask_far i out =

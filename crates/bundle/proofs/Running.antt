@@ -9,38 +9,40 @@ use mathlib.Core.Path.{◌≡◌, refl, ap, sym, ◌∙◌}
 use lib.ListN.{length, take, drop, set, length-append, length-set}
 use lib.Seq.{length-take-le, take-append-add, take-suc-set}
 use Rattle.numbers.proofs.Checks.{never}
-use Rattle.receiving.specs.declared.Ended.{Ended}
+use Rattle.receiving.specs.Takes.{RunEnd, ended_number, word_of, bytes_of, end_of, goes_on, Run, stopped, takes_from, takes_of}
 use Rattle.receiving.specs.declared.Ended.TheVariants as ended
-use Rattle.receiving.specs.declared.Taken.{Taken}
-use Rattle.receiving.specs.declared.Taken.TheVariants.{Waiting, Data, Missing, Behind, Refused}
+use Rattle.receiving.specs.Taking.{TakeAnswer, take_of}
+use Rattle.receiving.specs.declared.Taken.TheVariants.{Waiting, Data, Missing, Behind}
+use Rattle.std.specs.Prelude.{Ok, Err}
 use Rattle.receiving.specs.Receiver.{receiver_ok, store_fits}
-use Rattle.receiving.specs.Taking.{take_of}
-use Rattle.receiving.specs.Takes.{ended_number, word_of, bytes_of, end_of, goes_on, Run, stopped, takes_from, takes_of}
 use Rattle.receiving.proofs.Valid.{out_length, bytes_fit}
 use Rattle.bundle.specs.Events.{Handed, handed_by, bytes_out}
 use Rattle.bundle.specs.Worlds.{World, takes, take_seen, call, calls, handed_out, handed_in}
 use Rattle.bundle.specs.Running.{joined, answers_in, StopsAt, Runs, RunIsTakes}
+use Rattle.numbers.specs.declared.Refusal.{Refusal}
+use Rattle.numbers.specs.declared.Refusal.TheVariants as refusal
+use Rattle.numbers.specs.Refusals.{number}
 
 -- the packet of a take, if there is one, is the bytes that it has written
-joined_by : (t : Taken) (out : List ℕ) (rest : List Handed) → joined (bytes_out (handed_by (take_seen out t) ++ rest)) ≡ take (bytes_of t) out ++ joined (bytes_out rest)
-joined_by (Waiting i) out rest = refl
-joined_by (Data i n) out rest = refl
-joined_by (Missing i m) out rest = refl
-joined_by (Behind i) out rest = refl
-joined_by (Refused k) out rest = refl
+joined_by : (t : TakeAnswer) (out : List ℕ) (rest : List Handed) → joined (bytes_out (handed_by (take_seen out t) ++ rest)) ≡ take (bytes_of t) out ++ joined (bytes_out rest)
+joined_by (Ok (Waiting i)) out rest = refl
+joined_by (Ok (Data i n)) out rest = refl
+joined_by (Ok (Missing i m)) out rest = refl
+joined_by (Ok (Behind i)) out rest = refl
+joined_by (Err k) out rest = refl
 
 -- a take that another does not follow ends a run with its own number and line
-stops_at : (t : Taken) → goes_on t ≡ false → StopsAt (end_of t) t
-stops_at (Waiting i) e = inl (i, refl, refl)
-stops_at (Data i n) e = absurd (never e)
-stops_at (Missing i m) e = absurd (never e)
-stops_at (Behind i) e = absurd (never e)
-stops_at (Refused k) e = inr (k, refl, refl)
+stops_at : (t : TakeAnswer) → goes_on t ≡ false → StopsAt (end_of t) t
+stops_at (Ok (Waiting i)) e = inl (i, refl, refl)
+stops_at (Ok (Data i n)) e = absurd (never e)
+stops_at (Ok (Missing i m)) e = absurd (never e)
+stops_at (Ok (Behind i)) e = absurd (never e)
+stops_at (Err k) e = inr (k, refl, refl)
 
 -- how a run may end: at a full log, or at such a take, before it is full or before it is looked at
-abbrev Stops : Ended → ℕ → List ℕ → Taken → Type 0
+abbrev Stops : RunEnd → ℕ → List ℕ → TakeAnswer → Type 0
 Stops end taken log next =
-    ((taken ≡ length log) × (end ≡ ended.Full))
+    ((taken ≡ length log) × (end ≡ (Ok ended.Full)))
     ⊎ (StopsAt end next × ((taken < length log) ⊎ (ended_number end ≡ 2) ⊎ (ended_number end ≡ 9)))
 
 -- takes that lead to the end of a run, behind k that have written the first `at` bytes of the output: what those have left stays in front
@@ -61,14 +63,14 @@ module _ (w : World) (k at : ℕ) (out log : List ℕ) where
   abbrev next : World
   next = call w (takes left)
 
-  abbrev answer : Taken
+  abbrev answer : TakeAnswer
   answer = (take_of w.receiver w.store left).result.answer
 
   abbrev part : List ℕ
   part = (take_of w.receiver w.store left).out
 
   -- a run ends where the log is full, or that take would wait or be refused
-  ends : (end : Ended) → Stops end k log answer → Ends w k at out log (stopped end w.receiver k at out log)
+  ends : (end : RunEnd) → Stops end k log answer → Ends w k at out log (stopped end w.receiver k at out log)
   ends end why = record {
     outs = [];
     count = add-zero k;
@@ -123,7 +125,7 @@ module _ (w : World) (k at : ℕ) (out log : List ℕ) where
 from : (n : ℕ) (w : World) (k at : ℕ) (out log : List ℕ) → at ≤ length out → k + n ≡ length log
     → Ends w k at out log (takes_from n w.store w.receiver k at out log)
 unfolding takes_from
-from zero w k at out log inside full = ends w k at out log ended.Full (inl (omega arith, refl))
+from zero w k at out log inside full = ends w k at out log (Ok ended.Full) (inl (omega arith, refl))
 from (suc n) w k at out log inside full =
     let word = word_of (answer w k at out log) in
     let rest = from n (next w k at out log) (suc k) _ _ (set log k word) (bytes_inside w k at out log inside) (omega (arith, length-set log k word)) in
@@ -141,18 +143,18 @@ run_is_takes w out log = go (receiver_ok w.receiver) refl (store_fits w.receiver
     run : Bool → Bool → Run
     run good fits =
         cond good
-        (cond fits (takes_from (length log) w.store w.receiver 0 0 out log) (stopped (ended.Refused 9) w.receiver 0 0 out log))
-        (stopped (ended.Refused 2) w.receiver 0 0 out log)
+        (cond fits (takes_from (length log) w.store w.receiver 0 0 out log) (stopped (Err refusal.Store) w.receiver 0 0 out log))
+        (stopped (Err refusal.State) w.receiver 0 0 out log)
 
     -- from the start
     all : {r : Run} → Ends w 0 0 out log r → Runs w log r
     all e = record { outs = e.outs; count = omega (arith, e.count); world = e.world; bytes = e.bytes; told = omega (arith, e.told); words = e.words; stops = e.stops }
 
-    refused : (k : ℕ) → (k ≡ 2) ⊎ (k ≡ 9) → (take_of w.receiver w.store out).result.answer ≡ Refused k
-        → Runs w log (stopped (ended.Refused k) w.receiver 0 0 out log)
-    refused k which e = all (ends w 0 0 out log (ended.Refused k) (inr (inr (k, e, refl), inr which)))
+    refused : (k : Refusal) → (number k ≡ 2) ⊎ (number k ≡ 9) → (take_of w.receiver w.store out).result.answer ≡ Err k
+        → Runs w log (stopped (Err k) w.receiver 0 0 out log)
+    refused k which e = all (ends w 0 0 out log (Err k) (inr (inr (k, e, refl), inr which)))
 
     go : (t : Bool) → receiver_ok w.receiver ≡ t → (u : Bool) → store_fits w.receiver w.store ≡ u → Runs w log (run t u)
     go true g true f = all (from (length log) w 0 0 out log (omega arith) (omega arith))
-    go true g false f = refused 9 (inr refl) (simp (g, f))
-    go false g u f = refused 2 (inl refl) (simp g)
+    go true g false f = refused refusal.Store (inr refl) (simp (g, f))
+    go false g u f = refused refusal.State (inl refl) (simp g)

@@ -17,9 +17,8 @@ use Rattle.theory.specs.FarEnd as F
 use Rattle.theory.proofs.Lines.{arrived_reported, dropped_reported}
 use Rattle.theory.proofs.Histories.{at_field, run_append, outs_append, near_split, carries_are}
 use Rattle.theory.proofs.Proved.{far_end}
-use Rattle.sending.specs.declared.Sent.{Sent}
-use Rattle.sending.specs.declared.Sent.TheVariants as went
-use Rattle.sending.specs.Sender.{send_of, marker_from}
+use Rattle.sending.specs.Sender.{Sent, send_of, marker_from}
+use Rattle.std.specs.Prelude.{Ok, Err}
 use Rattle.sending.proofs.InTheory.{sound}
 use Rattle.bundle.specs.Events.{Event, handed_by, reported_by, bytes_out}
 use Rattle.bundle.specs.Worlds.{World, Call, sends, asks, arrives, loses, takes, send_seen, seen, call, handed_in, reported_in}
@@ -87,8 +86,8 @@ module _ (w : World) where
   send_silent x = go (send_of w.sender (length x)).answer
     where
       go : (t : Sent) → Silent (send_seen x t)
-      go (went.Went i due) = record { steps = (tt, tt); hands = refl; reports = λ j. refl }
-      go (went.Refused k) = record { steps = tt; hands = refl; reports = λ j. refl }
+      go (Ok went) = record { steps = (tt, tt); hands = refl; reports = λ j. refl }
+      go (Err k) = record { steps = tt; hands = refl; reports = λ j. refl }
 
   ask_silent : (i : ℕ) (out : List ℕ) → Silent (seen w (asks i out))
   ask_silent i out =

@@ -5,11 +5,10 @@ use native.Mathlib.Omega.{arith}
 use mathlib.Core.Bool.{Bool, true, false}
 use mathlib.Core.List.{List, [], ◌∷◌, ◌++◌}
 use mathlib.Core.Path.{◌≡◌, refl, sym, ap, ◌∙◌}
-use lib.ListN.{length, take}
+use lib.ListN.{length, take, get_or}
 use lib.Seq.{sets}
-use Rattle.numbers.specs.declared.Written.{Written}
-use Rattle.numbers.specs.declared.Written.TheVariants as written
-use Rattle.numbers.specs.Writing.{written_number, length_of, room, Outcome, written as writes}
+use Rattle.numbers.specs.Writing.{Written, length_of, room, Outcome, written as writes}
+use Rattle.std.specs.Prelude.{Ok, Err}
 use Rattle.numbers.proofs.Checks.{in_range_lem, from_range}
 use Rattle.numbers.proofs.Laws.{accepted, written_fits}
 use Rattle.plan.specs.declared.Plan.{Plan}
@@ -20,10 +19,8 @@ use Rattle.theory.specs.Sending.{choose, due_after}
 use Rattle.theory.specs.Sending as S
 use Rattle.theory.specs.System as T
 use Rattle.sending.specs.declared.Sender.{Sender}
-use Rattle.sending.specs.declared.Sent.{Sent}
-use Rattle.sending.specs.declared.Sent.TheVariants as went
+use Rattle.sending.specs.Sender.{Sent, went_to, sent_values, send_of, line_marker, marker_from}
 use Rattle.sending.specs.declared.SendResult.{SendResult}
-use Rattle.sending.specs.Sender.{send_of, line_marker, marker_from}
 use Rattle.sending.specs.InTheory.{is_packet}
 use Rattle.sending.proofs.Laws.{as_asked, line_not_asked}
 use Rattle.sending.proofs.InTheory.{On}
@@ -35,22 +32,24 @@ use Rattle.bundle.specs.Demands.{Rule, Share, theirs, after, opened, sent_of, ca
 use Rattle.bundle.proofs.Histories.{sent_append}
 use Rattle.bundle.proofs.Booth as booth
 use Rattle.bundle.proofs.Booth.{sent_now, every_history}
+use Rattle.numbers.specs.Refusals.{number_of}
+use Rattle.numbers.specs.declared.Refusal.{Refusal}
 
 -- ---- what an answer says
 
-pub went_not_refused : {t : Sent} {i k : ℕ} {due : Bool} → t ≡ went.Refused k → t ≡ went.Went i due → ⊥
+pub went_not_refused : {t : Sent} {i : ℕ} {refusal : Refusal} {due : Bool} → t ≡ Err refusal → t ≡ went_to i due → ⊥
 went_not_refused a b = let z : ◌≡◌ {A = ℕ} 0 1 = cc in omega arith
 
-went_there : {t : Sent} {i j : ℕ} {d e : Bool} → t ≡ went.Went i d → t ≡ went.Went j e → i ≡ j
-went_there a b = cc
+went_there : {t : Sent} {i j : ℕ} {d e : Bool} → t ≡ went_to i d → t ≡ went_to j e → i ≡ j
+went_there a b = ap (λ (t : Sent). get_or (sent_values t) 0 0) (sym a ∙ b)
 
-pub written_not_refused : {t : Written} {n k : ℕ} → t ≡ written.Refused k → t ≡ written.Length n → ⊥
+pub written_not_refused : {t : Written} {n : ℕ} {refusal : Refusal} → t ≡ Err refusal → t ≡ Ok n → ⊥
 written_not_refused a b = let z : ◌≡◌ {A = ℕ} 0 1 = cc in omega arith
 
 -- what is answered as written stands at the output's front
-written_front : (bytes out : List ℕ) (n : ℕ) → (writes bytes out).answer ≡ written.Length n → take n (writes bytes out).out ≡ bytes
+written_front : (bytes out : List ℕ) (n : ℕ) → (writes bytes out).answer ≡ Ok n → take n (writes bytes out).out ≡ bytes
 written_front bytes out n e =
-    ap (λ (k : ℕ). take k (writes bytes out).out) (sym (ap length_of e)) ∙ (accepted (room bytes out) bytes out (ap written_number e)).1
+    ap (λ (k : ℕ). take k (writes bytes out).out) (sym (ap length_of e)) ∙ (accepted (room bytes out) bytes out (ap number_of e)).1
 
 module _ (p : Plan) (size : ℕ) (store : List ℕ) (o : Opens p size store) where
   abbrev kept : Plan
@@ -94,7 +93,7 @@ module _ (p : Plan) (size : ℕ) (store : List ℕ) (o : Opens p size store) whe
       let packet : is_packet kept (length x) ≡ true = in_range_lem 1 (length x) p.max least most in (
         (now h).line,
         (keeps h).rule,
-        (keeps h).goes x packet ∙ ap (λ (ps : List (List ℕ)). went.Went (now h).line (due_after plan (T.sizes ps) (length (packets h)))) (sym (one_more h x packet)),
+        (keeps h).goes x packet ∙ ap (λ (ps : List (List ℕ)). went_to (now h).line (due_after plan (T.sizes ps) (length (packets h)))) (sym (one_more h x packet)),
       )
 
   pub share : Share p size store
@@ -102,7 +101,7 @@ module _ (p : Plan) (size : ℕ) (store : List ℕ) (o : Opens p size store) whe
       let packet : is_packet kept (length x) ≡ true = in_range_lem 1 (length x) p.max least most in
       rw (one_more h x packet, ← trimmed_quantum p plan_good_lem o.sixteen i l) ((keeps h).share x packet ends i l)
 
-  in_range_sent : (h : List Call) (n i : ℕ) (due : Bool) → (send_of (now h) n).answer ≡ went.Went i due → is_packet kept n ≡ true
+  in_range_sent : (h : List Call) (n i : ℕ) (due : Bool) → (send_of (now h) n).answer ≡ went_to i due → is_packet kept n ≡ true
   in_range_sent h n i due e = go (is_packet kept n) refl
     where
       go : (t : Bool) → is_packet kept n ≡ t → is_packet kept n ≡ true
@@ -110,7 +109,7 @@ module _ (p : Plan) (size : ℕ) (store : List ℕ) (o : Opens p size store) whe
       go false q = absurd (went_not_refused (ap (λ (r : SendResult). r.answer) ((keeps h).refuses n q)) e)
 
   -- a packet that is sent is in range, and goes to the choice by what the lines have carried
-  pub goes : (h : List Call) (x : List ℕ) (i : ℕ) (due : Bool) → (send_of (after p size store h).sender (length x)).answer ≡ went.Went i due
+  pub goes : (h : List Call) (x : List ℕ) (i : ℕ) (due : Bool) → (send_of (after p size store h).sender (length x)).answer ≡ went_to i due
       → (i ≡ choose (theirs p size store) (carried p size store h)) × (i < p.lines) × (1 ≤ length x) × (length x ≤ p.max)
   goes h x i due e =
       let packet = in_range_sent h (length x) i due e in
@@ -118,7 +117,7 @@ module _ (p : Plan) (size : ℕ) (store : List ℕ) (o : Opens p size store) whe
       let line : i ≡ (now h).line = went_there e ((keeps h).goes x packet) in
       (line ∙ (keeps h).figures.line, rw line (keeps h).rule.is_line, fits.0, fits.1)
 
-  asked_on_line : (h : List Call) (i : ℕ) (out : List ℕ) (n : ℕ) → (marker_from (now h) i out).answer ≡ written.Length n → i < p.lines
+  asked_on_line : (h : List Call) (i : ℕ) (out : List ℕ) (n : ℕ) → (marker_from (now h) i out).answer ≡ Ok n → i < p.lines
   asked_on_line h i out n e = go (dec_lt i p.lines)
     where
       go : Dec (i < p.lines) → i < p.lines
@@ -128,7 +127,7 @@ module _ (p : Plan) (size : ℕ) (store : List ℕ) (o : Opens p size store) whe
           absurd (written_not_refused (sym (line_not_asked (now h) i out (keeps h).valid off).0) e)
 
   -- a marker that is written is on a line, and shows what that line has carried
-  pub marks : (h : List Call) (i : ℕ) (out : List ℕ) (n : ℕ) → (marker_from (after p size store h).sender i out).answer ≡ written.Length n
+  pub marks : (h : List Call) (i : ℕ) (out : List ℕ) (n : ℕ) → (marker_from (after p size store h).sender i out).answer ≡ Ok n
       → (i < p.lines) × (take n (marker_from (after p size store h).sender i out).out ≡ mark_of (trimmed p) i (carried p size store h i))
   marks h i out n e =
       let line = asked_on_line h i out n e in
@@ -137,7 +136,7 @@ module _ (p : Plan) (size : ℕ) (store : List ℕ) (o : Opens p size store) whe
       (line, ap (λ (r : Outcome). take n r.out) shown ∙ front)
 
   pub marker_written_lem : (h : List Call) (i : ℕ) (out : List ℕ) → i < p.lines → length (line_marker (after p size store h).sender i) ≤ length out
-      → (marker_from (after p size store h).sender i out).answer ≡ written.Length (length (line_marker (after p size store h).sender i))
+      → (marker_from (after p size store h).sender i out).answer ≡ Ok (length (line_marker (after p size store h).sender i))
   marker_written_lem h i out l room =
       let bytes : List ℕ = line_marker (now h) i in
       ap (λ (r : Outcome). r.answer) (sym (as_asked (now h) i out (keeps h).valid (rw (on h).plan l)))

@@ -12,9 +12,8 @@ use Rattle.theory.specs.System.{Item, Line, State, put, arrived, arrive_of, drop
 use Rattle.theory.specs.System as T
 use Rattle.theory.proofs.Histories.{at_all}
 use Rattle.ring.specs.Queue.{Entry}
-use Rattle.sending.specs.declared.Sent.{Sent}
-use Rattle.sending.specs.declared.Sent.TheVariants as went
-use Rattle.sending.specs.Sender.{send_of, marker_from}
+use Rattle.sending.specs.Sender.{Sent, send_of, marker_from}
+use Rattle.std.specs.Prelude.{Ok, Err}
 use Rattle.receiving.specs.Taking.{take_of}
 use Rattle.bundle.specs.Events.{Parcel, packet, marker, Event, stored, nothing, put_by, left_by, lost_by, stored_by, each}
 use Rattle.bundle.specs.Worlds.{World, Call, sends, asks, arrives, loses, takes, landing, send_seen, arrive_seen, lose_seen, seen, with_road, roads_after, call, calls, events}
@@ -22,6 +21,7 @@ use Rattle.bundle.specs.Log.{steps_of, parcel_of, entry_of}
 use Rattle.bundle.specs.Words.{back}
 use Rattle.bundle.proofs.Meeting.{theirs, Roads}
 use Rattle.bundle.proofs.Histories.{along, calls_and, each_and, ask_cases, land_cases, take_cases}
+use Rattle.numbers.specs.Refusals.{number_of}
 
 -- ---- what is put on a line, and what leaves it
 
@@ -48,8 +48,8 @@ put_call : (w : World) (i : ℕ) (c : Call) → Moves w.road i (seen w c)
 put_call w i (sends x) = go (send_of w.sender (length x)).answer
   where
     go : (t : Sent) → Moves w.road i (send_seen x t)
-    go (went.Went j due) = joining w.road i j (packet x)
-    go (went.Refused k) = append-nil (w.road i)
+    go (Ok went) = joining w.road i went.line (packet x)
+    go (Err k) = append-nil (w.road i)
 put_call w i (asks j out) =
     ask_cases (Moves w.road i) j _ (marker_from w.sender j out).answer (λ b. joining w.road i j (marker b)) (λ k. append-nil (w.road i))
 put_call w i (arrives j) = go (w.road j) refl
@@ -57,7 +57,7 @@ put_call w i (arrives j) = go (w.road j) refl
     go : (road : List Parcel) → w.road j ≡ road → Moves w.road i (arrive_seen w j road)
     go [] e = append-nil (w.road i)
     go (x ∷ rest) e =
-        land_cases (Moves w.road i) j x (landing w.receiver w.store j x).arrived.number
+        land_cases (Moves w.road i) j x (number_of (landing w.receiver w.store j x).arrived.answer)
         (leaving w.road i j x rest e) (λ k. leaving w.road i j x rest e)
 put_call w i (loses j) = go (w.road j) refl
   where
@@ -172,8 +172,8 @@ module _ (p : Plan) where
     call_tells (sends x) = go (send_of w.sender (length x)).answer
       where
         go : (t : Sent) → After (send_seen x t)
-        go (went.Went i due) = quiet s.line _ (choose (theirs p) s.carries) (put (T.packet s.sent x)) (λ i. refl) (λ i. refl) refl refl
-        go (went.Refused k) = silent s.line _ (λ i. refl) (λ i. refl)
+        go (Ok went) = quiet s.line _ (choose (theirs p) s.carries) (put (T.packet s.sent x)) (λ i. refl) (λ i. refl) refl refl
+        go (Err k) = silent s.line _ (λ i. refl) (λ i. refl)
     call_tells (asks i out) =
         ask_cases After i _ (marker_from w.sender i out).answer
         (λ b. quiet s.line _ i (put (T.marker s.sent (s.carries i))) (λ j. refl) (λ j. refl) refl refl) (λ k. silent s.line _ (λ j. refl) (λ j. refl))
@@ -182,7 +182,7 @@ module _ (p : Plan) where
         go : (road : List Item) → (s.line j).road ≡ road → After (arrive_seen w j (map (parcel_of p j) road))
         go [] e = silent s.line nothing (λ i. refl) (λ i. refl)
         go (y ∷ rest) e =
-            land_cases After j (parcel_of p j y) (landing w.receiver w.store j (parcel_of p j y)).arrived.number
+            land_cases After j (parcel_of p j y) (number_of (landing w.receiver w.store j (parcel_of p j y)).arrived.answer)
             (is_stored s.line j y rest e) (λ k. is_lost s.line j y rest e _ (λ i. refl) (λ i. refl))
     call_tells (loses j) = subst (λ (road : List Parcel). After (lose_seen j road)) (sym (r.same j)) (go (s.line j).road refl)
       where

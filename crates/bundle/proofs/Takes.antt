@@ -12,11 +12,9 @@ use Rattle.plan.specs.declared.Plan.{Plan}
 use Rattle.numbers.specs.Wrap.{half}
 use Rattle.plan.specs.Plan.{quantum, line_plan, plan_ok, charge_of}
 use Rattle.plan.proofs.Laws.{line_in_range, charge_quantum}
-use Rattle.marker.specs.declared.MarkerRead.{MarkerRead}
-use Rattle.marker.specs.Marker.{marker_of}
-use Rattle.report.specs.declared.Report.{Report}
-use Rattle.report.specs.declared.Report.TheVariants as report
-use Rattle.report.specs.Report.{report_of}
+use Rattle.marker.specs.Marker.{MarkerRead, marker_of}
+use Rattle.report.specs.Report.{Report, report_of}
+use Rattle.std.specs.Prelude.{Some, None, Ok, Err}
 use Rattle.ring.specs.Ring.{onto}
 use Rattle.theory.specs.Sending.{rounds, round_at, counter_at}
 use Rattle.theory.specs.System.{Item, packet, marker, State, positions, current, fetched, out_of, take, step, run, outs}
@@ -25,8 +23,8 @@ use Rattle.theory.specs.FarEnd.{front, handed_bytes, near_head, Near}
 use Rattle.theory.proofs.Counting.{one_round_more}
 use Rattle.theory.proofs.Histories.{at_all}
 use Rattle.receiving.specs.declared.Receiver.{Receiver}
-use Rattle.receiving.specs.declared.Taken.{Taken}
-use Rattle.receiving.specs.declared.Taken.TheVariants.{Waiting, Data, Missing, Refused}
+use Rattle.receiving.specs.Taking.{TakeAnswer}
+use Rattle.receiving.specs.declared.Taken.TheVariants.{Waiting, Data, Missing}
 use Rattle.receiving.specs.declared.Turn.{Turn}
 use Rattle.receiving.specs.Receiver.{turn_of, line_of}
 use Rattle.receiving.specs.Taking.{Head, Stepped, stays, past, charged_turn, marker_head, item_on, told_step, step_of, taken, TakeOutcome, take_of}
@@ -42,12 +40,13 @@ use Rattle.bundle.proofs.Marks.{some_quantum, mark_read}
 use Rattle.bundle.proofs.Figures.{round_next, counter_next, report_at}
 use Rattle.bundle.proofs.Currents.{Within}
 use Rattle.bundle.proofs.Moves.{is_line, head_step, waits, moves}
+use Rattle.numbers.specs.declared.Refusal.TheVariants as refusal
 
 -- what a take answers, by what stands in front of line i, at position x
-abbrev pub says : List ℕ → ℕ → List Item → ℕ → Taken
-says out i [] x = Waiting i
-says out i (packet k b ∷ rest) x = cond (leb (length b) (length out)) (Data i (length b)) (Refused 8)
-says out i (marker k m ∷ rest) x = Missing i (m - x)
+abbrev pub says : List ℕ → ℕ → List Item → ℕ → TakeAnswer
+says out i [] x = Ok (Waiting i)
+says out i (packet k b ∷ rest) x = cond (leb (length b) (length out)) (Ok (Data i (length b))) (Err refusal.ShortOutput)
+says out i (marker k m ∷ rest) x = Ok (Missing i (m - x))
 
 -- and the output as it leaves it
 abbrev pub writes : List ℕ → List Item → List ℕ
@@ -83,7 +82,7 @@ module _ (p : Plan) (good : plan_ok p ≡ true) (some : 1 ≤ p.lines) (w : Worl
     some_q = some_quantum p good c line
 
     -- what is to be shown of it
-    record Done (items : List Item) (a : Taken) (o : List ℕ) : Type 0 where
+    record Done (items : List Item) (a : TakeAnswer) (o : List ℕ) : Type 0 where
       answer : a ≡ says out c items x
       leaves : o ≡ writes out items
       hands : bytes_out (handed_by (take_seen o a)) ≡ handed_bytes (outs (theirs p) s (steps_of (take_seen o a)))
@@ -142,7 +141,7 @@ module _ (p : Plan) (good : plan_ok p ≡ true) (some : 1 ≤ p.lines) (w : Worl
 
       abbrev handed : Stepped
       handed = record {
-        step = record { answer = Data c (length b); line = past r.rings.size (line_of r c) (length b) (charged_turn (line_plan p c) (turn_of r.turns c) (length b)) };
+        step = record { answer = Ok (Data c (length b)); line = past r.rings.size (line_of r c) (length b) (charged_turn (line_plan p c) (turn_of r.turns c) (length b)) };
         out = onto b out;
       }
 
@@ -163,12 +162,12 @@ module _ (p : Plan) (good : plan_ok p ≡ true) (some : 1 ≤ p.lines) (w : Worl
                 leaves = simp t;
                 hands = ap (λ (bytes : List ℕ). bytes ∷ []) (take-append_seam b (drop (length b) out))
                     ∙ ap (λ (items : List Item). handed_bytes (out_of items ++ [])) (sym e);
-                reports = reports_are (take_seen (onto b out) (Data c (length b))) _ e (omega arith) (λ j d. refl);
+                reports = reports_are (take_seen (onto b out) (Ok (Data c (length b)))) _ e (omega arith) (λ j d. refl);
                 far = moves p good some w s m within out (packet k b) rest e (x + charge) refl (omega arith) one_more handed is turn_next (λ j. refl);
               })
           go false t =
-              let is : took ≡ taken r c (stays (line_of r c) (Refused 8) out) = took_packet ∙ ap (taken r c) (simp t) in
-              let answered : took.result.answer ≡ Refused 8 = ap (λ (o : TakeOutcome). o.result.answer) is in
+              let is : took ≡ taken r c (stays (line_of r c) (Err refusal.ShortOutput) out) = took_packet ∙ ap (taken r c) (simp t) in
+              let answered : took.result.answer ≡ Err refusal.ShortOutput = ap (λ (o : TakeOutcome). o.result.answer) is in
               let same = (refused_stays r w.store out (ap goes_on answered)).0 in
               rw answered (record {
                 answer = simp t;
@@ -197,8 +196,8 @@ module _ (p : Plan) (good : plan_ok p ≡ true) (some : 1 ≤ p.lines) (w : Worl
 
       -- whatever it tells, the take is a step, so that the premise speaks of this marker
       steps : (t : Report) (o : List ℕ) → steps_of (take_seen o (told_step_lem t).step.answer) ≡ take ∷ []
-      steps report.Behind o = refl
-      steps (report.Missing missing) o = refl
+      steps None o = refl
+      steps (Some missing) o = refl
 
       near_front : Near (theirs p) s (steps_of (take_seen took.out took.result.answer)) → y / q < x / q + half
       near_front near =
@@ -211,15 +210,15 @@ module _ (p : Plan) (good : plan_ok p ≡ true) (some : 1 ≤ p.lines) (w : Worl
       a_marker near =
           let ahead = near_front near in
           let up : x ≤ y = low k y rest e in
-          let missing : told ≡ report.Missing (y - x) =
+          let missing : told ≡ Some (y - x) =
           ap (λ (t : Turn). report_of q t.round t.counter (marker_of c (round_at q y) (counter_at q y))) turn_is ∙ report_at q x y c some_q up ahead in
-          let did : Stepped = told_step_lem (report.Missing (y - x)) in
+          let did : Stepped = told_step_lem (Some (y - x)) in
           let is : took ≡ taken r c did = is_report ∙ ap (λ (t : Report). taken r c (told_step_lem t)) missing in
           rw is (record {
             answer = refl;
             leaves = refl;
             hands = ap (λ (items : List Item). handed_bytes (out_of items ++ [])) (sym e);
-            reports = reports_are (take_seen out (Missing c (y - x))) _ e (rw (eq-eqb c c refl) refl) (λ j d. rw (ne_eqb c j d) refl);
+            reports = reports_are (take_seen out (Ok (Missing c (y - x)))) _ e (rw (eq-eqb c c refl) refl) (λ j d. rw (ne_eqb c j d) refl);
             far = moves p good some w s m within out (marker k y) rest e y refl up ahead did is refl (λ j. refl);
           })
 

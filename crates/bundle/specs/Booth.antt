@@ -8,11 +8,11 @@ use Rattle.theory.specs.Sending as S
 use Rattle.theory.specs.System.{sizes}
 use Rattle.theory.specs.Demands.{Lowest, Shows}
 use Rattle.sending.specs.declared.Sender.{Sender}
-use Rattle.sending.specs.declared.Sent.TheVariants.{Went}
-use Rattle.sending.specs.Sender.{sender_ok, open_sender, not_sent, send_of, marker_from}
+use Rattle.sending.specs.Sender.{went_to, sender_ok, open_sender, not_sent, send_of, marker_from, sender_of}
 use Rattle.sending.specs.InTheory.{is_packet, in_theory, figures_of}
 use Rattle.bundle.specs.Log.{mark_of}
 use Rattle.bundle.specs.Worlds.{World, Call, calls, sent_in}
+use Rattle.numbers.specs.declared.Refusal.TheVariants as refusal
 
 -- what each line has carried once these packets are sent, and the full rounds that have ended
 abbrev pub carried_by : Plan → List (List ℕ) → ℕ → ℕ
@@ -33,9 +33,9 @@ pub record Keeps (p : Plan) (packets : List (List ℕ)) (s : Sender) : Type 0 wh
   -- a packet goes to the line of lowest round by what the lines have carried, lower number on a tie, and markers are due by the definition
   pub rule : Lowest (in_theory p) (carried_by p packets) s.line
   pub goes : (x : List ℕ) → is_packet p (length x) ≡ true
-      → (send_of s (length x)).answer ≡ Went s.line (S.due_after (in_theory p) (sizes (and_packet packets x)) (length packets))
+      → (send_of s (length x)).answer ≡ went_to s.line (S.due_after (in_theory p) (sizes (and_packet packets x)) (length packets))
   -- any other length is refused with 4, and leaves the state
-  pub refuses : (size : ℕ) → is_packet p size ≡ false → send_of s size ≡ not_sent s 4
+  pub refuses : (size : ℕ) → is_packet p size ≡ false → send_of s size ≡ not_sent s refusal.Length
   -- at the end of k full rounds a line has carried at least k quanta, and less than k quanta plus one largest packet
   pub share : (x : List ℕ) → is_packet p (length x) ≡ true → S.ends (in_theory p) (carried_by p packets) (length x) ≡ true → (i : ℕ) → i < p.lines
       → (ended_by p (and_packet packets x) * quantum p i ≤ carried_by p (and_packet packets x) i)
@@ -46,5 +46,5 @@ pub record Keeps (p : Plan) (packets : List (List ℕ)) (s : Sender) : Type 0 wh
 -- From any world whose sender is opened, after any calls, for the packets that its sends have answered to be on their way.
 abbrev pub EveryHistory : Type 0
 EveryHistory =
-    (p : Plan) → PlanIn p → length p.quanta ≡ 16 → (w : World) → w.sender ≡ (open_sender p).sender
+    (p : Plan) → PlanIn p → length p.quanta ≡ 16 → (w : World) → w.sender ≡ sender_of (open_sender p)
     → (h : List Call) → Keeps (trimmed p) (sent_in w h) (calls w h).sender

@@ -1,6 +1,5 @@
 -- The demands, of histories of calls.
-use Rattle.std.specs.Prelude.{ℕ, ◌+◌, ◌-◌, ◌*◌, ◌≤◌, ◌<◌, true, List, [], ◌∷◌, ◌++◌, map, ◌≡◌, length, drop}
-use Rattle.numbers.specs.declared.Written.TheVariants as written
+use Rattle.std.specs.Prelude.{ℕ, ◌+◌, ◌-◌, ◌*◌, ◌≤◌, ◌<◌, true, List, [], ◌∷◌, ◌++◌, map, ◌≡◌, length, drop, Ok, Err}
 use Rattle.plan.specs.declared.Plan.{Plan}
 use Rattle.plan.specs.Limits.{item_head}
 use Rattle.plan.specs.Plan.{quantum, line_plan, charge_of, trimmed}
@@ -10,8 +9,7 @@ use Rattle.theory.specs.Demands.{Lowest}
 use Rattle.theory.specs.System as T
 use Rattle.theory.specs.Words.{Beginning, total, before, Yielded, NoneBehind, HasMarker, to_come}
 use Rattle.theory.specs.FarEnd as F
-use Rattle.sending.specs.declared.Sent.TheVariants as sent
-use Rattle.sending.specs.Sender.{sender_ok, send_of, line_marker, marker_from}
+use Rattle.sending.specs.Sender.{went_to, sender_ok, send_of, line_marker, marker_from}
 use Rattle.sending.specs.InTheory.{in_theory}
 use Rattle.receiving.specs.declared.Taken.TheVariants as taken
 use Rattle.receiving.specs.Receiver.{held_of, receiver_ok}
@@ -21,6 +19,9 @@ use Rattle.bundle.specs.Worlds.{World, Call, sends, takes, start, landing, calls
 use Rattle.bundle.specs.Words.{and_then, back, Names, RoomFor, queue_at, queue_bytes, held_below, NoPacket, NoPacketOn, bytes_of}
 use Rattle.bundle.specs.Log.{log, parcel_of, entry_of}
 use Rattle.bundle.specs.Booth.{carried_by, ended_by}
+use Rattle.numbers.specs.Refusals.{number_of}
+use Rattle.numbers.specs.declared.Refusal.{Refusal}
+use Rattle.numbers.specs.declared.Refusal.TheVariants as refusal
 
 module _ (p : Plan) (size : ℕ) (store : List ℕ) where
   -- the plan as both ends keep it: zeros from line N on
@@ -105,7 +106,7 @@ module _ (p : Plan) (size : ℕ) (store : List ℕ) where
   Rule =
       (h : List Call) (x : List ℕ) → 1 ≤ length x → length x ≤ p.max
       → (i : ℕ) × Lowest theirs (carried h) i
-      × ((send_of (after h).sender (length x)).answer ≡ sent.Went i (due_after theirs (T.sizes (sent_of (and_then h (sends x)))) (length (sent_of h))))
+      × ((send_of (after h).sender (length x)).answer ≡ went_to i (due_after theirs (T.sizes (sent_of (and_then h (sends x)))) (length (sent_of h))))
 
   -- A send that ends the k-th full round leaves on every line at least k quanta, and less than k quanta plus one largest packet.
   abbrev pub Share : Type 0
@@ -125,11 +126,11 @@ module _ (p : Plan) (size : ℕ) (store : List ℕ) where
   -- What the next take answers, by what stands in front of that line. Nothing: it waits for the line. A packet: its line, its length and its bytes
   -- where the output is as long, and else it is refused with 8. (A marker: `Reports`.)
   pub record Answers (h : List Call) (out : List ℕ) (i : ℕ) : Type 0 where
-    pub empty : ((system h).line i).store ≡ [] → (taking h out).result.answer ≡ taken.Waiting i
+    pub empty : ((system h).line i).store ≡ [] → (taking h out).result.answer ≡ Ok (taken.Waiting i)
     pub packet : (k : ℕ) (x : List ℕ) (rest : List T.Item) → ((system h).line i).store ≡ T.packet k x ∷ rest → length x ≤ length out
-        → ((taking h out).result.answer ≡ taken.Data i (length x)) × ((taking h out).out ≡ x ++ drop (length x) out)
+        → ((taking h out).result.answer ≡ Ok (taken.Data i (length x))) × ((taking h out).out ≡ x ++ drop (length x) out)
     pub too_long : (k : ℕ) (x : List ℕ) (rest : List T.Item) → ((system h).line i).store ≡ T.packet k x ∷ rest → length out < length x
-        → (taking h out).result.answer ≡ taken.Refused 8
+        → (taking h out).result.answer ≡ Err refusal.ShortOutput
 
   abbrev pub Answered : Type 0
   Answered = (h : List Call) (out : List ℕ) (i : ℕ) → Near (and_then h (takes out)) → Lowest theirs (T.positions (system h)) i → Answers h out i
@@ -158,7 +159,7 @@ module _ (p : Plan) (size : ℕ) (store : List ℕ) where
   Reports =
       (h : List Call) (out : List ℕ) (i k position : ℕ) (rest : List T.Item) → Near (and_then h (takes out)) → Lowest theirs (T.positions (system h)) i
       → ((system h).line i).store ≡ T.marker k position ∷ rest
-      → (m : ℕ) × ((taking h out).result.answer ≡ taken.Missing i m) × ((taking h out).out ≡ out)
+      → (m : ℕ) × ((taking h out).result.answer ≡ Ok (taken.Missing i m)) × ((taking h out).out ≡ out)
       × (m + reported_in i opened h ≡ total (before theirs i k) ((system h).line i).lost)
 
   -- Calls h₁ up to some moment, h₂ from there on. In h₁ each line i has yielded a marker, labelled c i, behind which no packet is lost: what is
@@ -186,11 +187,11 @@ module _ (p : Plan) (size : ℕ) (store : List ℕ) where
   -- ring has room, and a take with room for the largest packet is not refused. (Without this an end that refuses everything would pass.)
   pub record OnlyForCause : Type 0 where
     pub ask : (h : List Call) (i : ℕ) (out : List ℕ) → i < p.lines → length (line_marker (after h).sender i) ≤ length out
-        → (marker_from (after h).sender i out).answer ≡ written.Length (length (line_marker (after h).sender i))
+        → (marker_from (after h).sender i out).answer ≡ Ok (length (line_marker (after h).sender i))
     pub land : (h : List Call) (i : ℕ) (x : Parcel) (rest : List Parcel) → (after h).road i ≡ x ∷ rest
-        → item_head + length (bytes_of x) ≤ size - (held_of (after h).receiver.rings i).used → (landing (after h).receiver (after h).store i x).arrived.number ≡ 0
-    pub take : (h : List Call) (out : List ℕ) → Near (and_then h (takes out)) → p.max ≤ length out → (k : ℕ)
-        → (taking h out).result.answer ≡ taken.Refused k → ⊥
+        → item_head + length (bytes_of x) ≤ size - (held_of (after h).receiver.rings i).used → number_of (landing (after h).receiver (after h).store i x).arrived.answer ≡ 0
+    pub take : (h : List Call) (out : List ℕ) → Near (and_then h (takes out)) → p.max ≤ length out → (refusal : Refusal)
+        → (taking h out).result.answer ≡ Err refusal → ⊥
 
 -- what is promised of both ends, once opened
 pub record Promises (p : Plan) (size : ℕ) (store : List ℕ) : Type 0 where

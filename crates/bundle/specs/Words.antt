@@ -1,14 +1,15 @@
 -- The words in which the demands are said of calls.
-use Rattle.std.specs.Prelude.{ℕ, zero, suc, ◌+◌, ◌*◌, ◌≤◌, List, [], ◌∷◌, ◌++◌, ◌≡◌, length}
+use Rattle.std.specs.Prelude.{ℕ, zero, suc, ◌+◌, ◌*◌, ◌≤◌, List, [], ◌∷◌, ◌++◌, ◌≡◌, length, Ok, Err}
 use Rattle.plan.specs.declared.Plan.{Plan}
 use Rattle.plan.specs.Ranges.{PlanIn, StoreIn}
 use Rattle.theory.specs.System as T
 use Rattle.ring.specs.Queue.{Entry}
-use Rattle.receiving.specs.declared.Taken.{Taken}
+use Rattle.receiving.specs.Taking.{TakeAnswer}
 use Rattle.receiving.specs.declared.Taken.TheVariants as taken
 use Rattle.receiving.specs.Stage.{stage, queue_on}
 use Rattle.bundle.specs.Events.{Parcel, packet, marker}
 use Rattle.bundle.specs.Worlds.{World, Call}
+use Rattle.numbers.specs.Refusals.{number}
 
 -- A plan and S in range, and a store of N × S bytes (a plan's quanta are an array of sixteen). Both ends open then, and only then.
 pub record Opens (p : Plan) (size : ℕ) (store : List ℕ) : Type 0 where
@@ -27,12 +28,12 @@ back [] = []
 back (x ∷ xs) = back xs ++ (x ∷ [])
 
 -- an answer of a take about line i: no marker is behind, and it is refused only for want of room
-abbrev pub Names : ℕ → Taken → Type 0
-Names i (taken.Waiting line) = i ≡ line
-Names i (taken.Data line n) = i ≡ line
-Names i (taken.Missing line m) = i ≡ line
-Names i (taken.Behind line) = ⊥
-Names i (taken.Refused k) = k ≡ 8
+abbrev pub Names : ℕ → TakeAnswer → Type 0
+Names i (Ok (taken.Waiting line)) = i ≡ line
+Names i (Ok (taken.Data line n)) = i ≡ line
+Names i (Ok (taken.Missing line m)) = i ≡ line
+Names i (Ok (taken.Behind line)) = ⊥
+Names i (Err refusal) = number refusal ≡ 8
 
 -- an output has room for what is in front
 abbrev pub RoomFor : List T.Item → List ℕ → Type 0

@@ -1,22 +1,19 @@
 -- What the booth and the stage hold, and histories of their calls. Each end after a call is the definition that the public function's contract
 -- cites, and nothing else; the roads follow from what is seen.
-use Rattle.std.specs.Prelude.{ℕ, cond, List, [], ◌∷◌, ◌++◌, eqb, length, take, drop}
-use Rattle.numbers.specs.declared.Written.{Written}
-use Rattle.numbers.specs.declared.Written.TheVariants as written
+use Rattle.std.specs.Prelude.{ℕ, cond, List, [], ◌∷◌, ◌++◌, eqb, length, take, drop, Ok, Err}
+use Rattle.numbers.specs.Writing.{Written}
 use Rattle.plan.specs.declared.Plan.{Plan}
 use Rattle.sending.specs.declared.Sender.{Sender}
-use Rattle.sending.specs.declared.Sent.{Sent}
-use Rattle.sending.specs.declared.Sent.TheVariants as went
-use Rattle.sending.specs.Sender.{open_sender, send_of, marker_from}
+use Rattle.sending.specs.Sender.{Sent, open_sender, send_of, marker_from, sender_of}
 use Rattle.receiving.specs.declared.Receiver.{Receiver}
-use Rattle.receiving.specs.declared.Taken.{Taken}
+use Rattle.receiving.specs.Taking.{TakeAnswer, take_of}
 use Rattle.receiving.specs.declared.Taken.TheVariants as taken
-use Rattle.receiving.specs.Receiver.{open_receiver}
+use Rattle.receiving.specs.Receiver.{open_receiver, receiver_of}
 use Rattle.receiving.specs.Arriving.{Arrival, data_arrival, marker_arrival}
-use Rattle.receiving.specs.Taking.{take_of}
 use Rattle.receiving.specs.Stage.{Stage, stage}
 use Rattle.bundle.specs.Events.{Parcel, packet, marker, Event, sent, marked, stored, turned_away, lost, nothing, handed, missing, behind, waiting, refused}
 use Rattle.bundle.specs.Events.{Handed, sent_by, handed_by, reported_by, each, sum, bytes_out}
+use Rattle.numbers.specs.Refusals.{number, number_of}
 
 -- both ends and the store as the public functions take them, and each line's parcels under way, oldest first
 pub record World : Type 0 where
@@ -27,7 +24,7 @@ pub record World : Type 0 where
 
 -- both ends opened on one plan, with S bytes a line, over a store
 abbrev pub start : Plan → ℕ → List ℕ → World
-start p size store = record { sender = (open_sender p).sender; receiver = (open_receiver p size).receiver; store = store; road = λ i. [] }
+start p size store = record { sender = sender_of (open_sender p); receiver = receiver_of (open_receiver p size); store = store; road = λ i. [] }
 
 -- a packet of these bytes is sent; a marker is asked for on a line, into an output; a line's oldest parcel arrives, or is lost; a take, into an output
 pub data Call : Type 0 where
@@ -40,13 +37,13 @@ pub data Call : Type 0 where
 -- ---- what is seen of a call
 
 abbrev pub send_seen : List ℕ → Sent → Event
-send_seen x (went.Went i due) = sent i x due
-send_seen x (went.Refused k) = refused k
+send_seen x (Ok went) = sent went.line x went.due
+send_seen x (Err refusal) = refused (number refusal)
 
 -- a marker's bytes are at the front of the output, as the call leaves it
 abbrev pub ask_seen : ℕ → List ℕ → Written → Event
-ask_seen i out (written.Length n) = marked i (take n out)
-ask_seen i out (written.Refused k) = refused k
+ask_seen i out (Ok n) = marked i (take n out)
+ask_seen i out (Err refusal) = refused (number refusal)
 
 -- a parcel is handed to the receiver
 abbrev pub landing : Receiver → List ℕ → ℕ → Parcel → Arrival
@@ -58,19 +55,19 @@ land_seen i x number = cond (eqb number 0) (stored i x) (turned_away i x number)
 
 abbrev pub arrive_seen : World → ℕ → List Parcel → Event
 arrive_seen w i [] = nothing
-arrive_seen w i (x ∷ rest) = land_seen i x (landing w.receiver w.store i x).arrived.number
+arrive_seen w i (x ∷ rest) = land_seen i x (number_of (landing w.receiver w.store i x).arrived.answer)
 
 abbrev pub lose_seen : ℕ → List Parcel → Event
 lose_seen i [] = nothing
 lose_seen i (x ∷ rest) = lost i x
 
 -- and so are a packet's
-abbrev pub take_seen : List ℕ → Taken → Event
-take_seen out (taken.Waiting i) = waiting i
-take_seen out (taken.Data i n) = handed i (take n out)
-take_seen out (taken.Missing i m) = missing i m
-take_seen out (taken.Behind i) = behind i
-take_seen out (taken.Refused k) = refused k
+abbrev pub take_seen : List ℕ → TakeAnswer → Event
+take_seen out (Ok (taken.Waiting i)) = waiting i
+take_seen out (Ok (taken.Data i n)) = handed i (take n out)
+take_seen out (Ok (taken.Missing i m)) = missing i m
+take_seen out (Ok (taken.Behind i)) = behind i
+take_seen out (Err refusal) = refused (number refusal)
 
 abbrev pub seen : World → Call → Event
 seen w (sends x) = send_seen x (send_of w.sender (length x)).answer

@@ -10,25 +10,28 @@ use mathlib.Core.Logic.{dite, inl}
 use lib.Dec.{ltb, leb, eqb}
 use lib.ListN.{length, take, drop, get_or, length-append, get_or-append}
 use lib.Seq.{length-take-le, get_or-append-add, get_or-take, get_or-drop, get_or-set_same, get_or-set_other, set-get_or}
-use borrow.Author.Tests.{ltb-true, leb-true, eqb-true, eq-eqb, ne_eqb}
-use Rattle.numbers.specs.Checks.{check, in_range}
+use borrow.Author.Tests.{ltb-true, leb-true, eqb-true, eq-eqb}
+use Rattle.std.specs.Prelude.{Ok, Err}
+use Rattle.std.specs.Result.{result_and}
+use Rattle.numbers.specs.declared.Refusal.{Refusal}
+use Rattle.numbers.specs.declared.Refusal.TheVariants as refusal
+use Rattle.numbers.specs.Refusals.{number_of}
+use Rattle.numbers.specs.Checks.{Checked, passed, check, checked, in_range}
 use Rattle.numbers.specs.Coding.{Bytes}
-use Rattle.numbers.proofs.Checks.{check_passed, own_passed, in_range_lem, from_range}
+use Rattle.numbers.proofs.Checks.{check_passed, own_passed, in_range_lem, from_range, no_zero, by_checks}
 use Rattle.plan.specs.Limits.{item_head}
 use Rattle.plan.specs.Plan.{at, quantum}
 use Rattle.plan.specs.Ranges.{From}
 use Rattle.marker.specs.declared.Marker.{Marker}
-use Rattle.marker.specs.declared.MarkerRead.{MarkerRead}
-use Rattle.marker.specs.declared.MarkerRead.TheVariants.{Whole, Refused}
-use Rattle.marker.specs.Marker.{number_of, record_read, judged}
+use Rattle.marker.specs.Marker.{MarkerRead, record_read, judge, judged}
 use Rattle.marker.proofs.Laws.{whole_not_refused}
-use Rattle.report.specs.Report.{on_number, marker_on}
+use Rattle.report.specs.Report.{on_checks, marker_on}
 use Rattle.ring.specs.Ring.{turned, onto, into_ring, item_bytes, stored}
 use Rattle.ring.proofs.Laws.{turned_get, into_length, into_turned, stored_length}
 use Rattle.receiving.specs.declared.Receiver.{Receiver}
 use Rattle.receiving.specs.Receiver.{receiver_ok, store_fits, ring_of, with_ring}
-use Rattle.receiving.specs.Arriving.{Arrival, place_of, with_item, with_stored, not_stored, arrival, arrival_number, room_number, arrival_of}
-use Rattle.receiving.specs.Arriving.{data_number, data_arrival, marker_number, marker_arrival}
+use Rattle.receiving.specs.Arriving.{Arrival, place_of, with_item, with_stored, not_stored, arrival, arrival_checks, room_check, arrival_of}
+use Rattle.receiving.specs.Arriving.{data_check, data_arrival, marker_check, marker_arrival}
 use Rattle.receiving.proofs.Laws.{ring_inside, ring_length}
 use Rattle.receiving.proofs.Stores.{few_rings, with_length, ring_here}
 use Rattle.calls.specs.Plain.{Not, ReceiverArrays, MarkerSpelled, MarkerTo, MarkerOf, place_in}
@@ -36,8 +39,8 @@ use Rattle.calls.specs.Table.{given, lent_to, room_on}
 use Rattle.calls.specs.Outcomes.{laid_out, Stores}
 use Rattle.calls.specs.Frame.{Arrives}
 use Rattle.calls.proofs.States.{receiver_in, receiver_good}
-use Rattle.calls.proofs.Markers.{spelled_reads, marker_spelled, only_five, read_counter, read_line, judged_number}
-use Rattle.calls.proofs.Rows.{Gives, ends, unless, range_row, equal_row, below_row, at_most_row, settled}
+use Rattle.calls.proofs.Markers.{spelled_reads, marker_spelled, only_five, read_counter, read_line}
+use Rattle.calls.proofs.Rows.{Gives, ends, unless, range_row, equal_row, below_row, at_most_row}
 
 -- ---- a byte of a ring that bytes are laid in
 
@@ -138,28 +141,25 @@ record Passed (r : Receiver) (i : ℕ) (b store : List ℕ) : Type 0 where
   line : i < r.plan.lines
   free : item_head + length b ≤ r.rings.size - (place_of r i).used
 
-module _ (own : ℕ) (r : Receiver) (i kind : ℕ) (b store : List ℕ) where
-  passed : arrival_number own r i b store ≡ 0 → Passed r i b store
-  passed e =
-      let state = check_passed (receiver_ok r) 2 _ (omega arith) e in
-      let long = check_passed (store_fits r store) 9 _ (omega arith) state.1 in
-      let line = check_passed (ltb i r.plan.lines) 3 _ (omega arith) long.1 in
-      let last = own_passed own (room_number r i b) line.1 in
-      let free = check_passed (leb (item_head + length b) (r.rings.size - (place_of r i).used)) 7 0 (omega arith) last in
+module _ (own : Checked) (r : Receiver) (i kind : ℕ) (b store : List ℕ) where
+  all_passed : arrival_checks own r i b store ≡ passed → Passed r i b store
+  all_passed e =
+      let state = check_passed (receiver_ok r) _ _ (ap number_of e) in
+      let long = check_passed (store_fits r store) _ _ state.1 in
+      let line = check_passed (ltb i r.plan.lines) _ _ long.1 in
+      let last = own_passed own (room_check r i b) line.1 in
+      let free = check_passed (leb (item_head + length b) (r.rings.size - (place_of r i).used)) _ _ last.1 in
       record { good = state.0; fits = eqb-true _ _ long.0; line = ltb-true _ _ line.0; free = leb-true _ _ free.0 }
 
   abbrev landed : Arrival
-  landed = record { arrived = record { number = 0; next = with_item r i (item_head + length b) }; store = with_stored r i kind b store }
+  landed = record { arrived = record { answer = passed; next = with_item r i (item_head + length b) }; store = with_stored r i kind b store }
 
-  abbrev refused : ℕ → Arrival
-  refused number = record { arrived = not_stored r number; store = store }
+  abbrev refused : Refusal → Arrival
+  refused k = record { arrived = not_stored r k; store = store }
 
-  arrival_cases : (P : Arrival → Type 0) → (Passed r i b store → P landed) → ((number : ℕ) → Not (number ≡ 0) → P (refused number))
-      → P (arrival_of own r i kind b store)
+  arrival_cases : (P : Arrival → Type 0) → (Passed r i b store → P landed) → ((k : Refusal) → P (refused k)) → P (arrival_of own r i kind b store)
   unfolding arrival_of arrival
-  arrival_cases P stores refuses =
-      let number = arrival_number own r i b store in
-      settled P number landed (refused number) (λ e. stores (passed e)) (refuses number)
+  arrival_cases P stores refuses = by_checks P (arrival_checks own r i b store) (λ e. stores (all_passed e)) (λ k _. refuses k)
 
 -- ---- the store, and the lines' figures, of one that passes
 
@@ -217,7 +217,7 @@ module _ (r : Receiver) (i kind : ℕ) (b store : List ℕ) (p : Passed r i b st
           ∙ byte_inside lines size store p.fits i p.line filled filled_size j inside
           ∙ stored_other ring head used kind b free j (omega (arith, ring_size)) clear ∙ ring_byte size store i j inside ∙ ap (at store) here
 
-module _ (own : ℕ) (r : Receiver) (i kind : ℕ) (b store : List ℕ) where
+module _ (own : Checked) (r : Receiver) (i kind : ℕ) (b store : List ℕ) where
   abbrev answer : Arrival
   answer = arrival_of own r i kind b store
 
@@ -235,7 +235,7 @@ module _ (own : ℕ) (r : Receiver) (i kind : ℕ) (b store : List ℕ) where
         same_length = with_length r.plan.lines r.rings.size store p.fits i p.line _ (filled_size r i kind b store p);
         elsewhere = other_bytes r i kind b store p;
       })
-      (λ number some. record {
+      (λ k. record {
         refused = λ _. (refl, refl);
         plan = refl;
         size = refl;
@@ -247,117 +247,120 @@ module _ (own : ℕ) (r : Receiver) (i kind : ℕ) (b store : List ℕ) where
       })
 
   -- and what it stores
-  stores : ReceiverArrays r → answer.arrived.number ≡ 0 → Stores r i kind b store answer
+  stores : ReceiverArrays r → number_of answer.arrived.answer ≡ 0 → Stores r i kind b store answer
   stores whole =
-      arrival_cases own r i kind b store (λ a. a.arrived.number ≡ 0 → Stores r i kind b store a)
+      arrival_cases own r i kind b store (λ a. number_of a.arrived.answer ≡ 0 → Stores r i kind b store a)
       (λ p _. record {
         used = get_or-set_same r.rings.used i _ 0 (omega (arith, whole.used, p.line, (few_rings r p.good).0));
         bytes = laid r i kind b store p;
       })
-      (λ number some zero. absurd (some zero))
+      (λ k zero. absurd (no_zero k zero))
 
 -- ---- data and markers
 
 pub frame_data_arrives : (r : Receiver) (i : ℕ) (b store : List ℕ) → Arrives r i b store (data_arrival r i b store)
-frame_data_arrives r i b store = arrives (data_number r b) r i 0 b store
+frame_data_arrives r i b store = arrives (data_check r b) r i 0 b store
 
 pub frame_marker_arrives : (r : Receiver) (i : ℕ) (b store : List ℕ) → Arrives r i b store (marker_arrival r i b store)
-frame_marker_arrives r i b store = arrives (marker_number r i b) r i 1 b store
+frame_marker_arrives r i b store = arrives (marker_check r i b) r i 1 b store
 
-pub outcome_data_stored : (r : Receiver) (i : ℕ) (b store : List ℕ) → ReceiverArrays r → (data_arrival r i b store).arrived.number ≡ 0
+pub outcome_data_stored : (r : Receiver) (i : ℕ) (b store : List ℕ) → ReceiverArrays r → number_of (data_arrival r i b store).arrived.answer ≡ 0
     → Stores r i 0 b store (data_arrival r i b store)
-outcome_data_stored r i b store = stores (data_number r b) r i 0 b store
+outcome_data_stored r i b store = stores (data_check r b) r i 0 b store
 
-pub outcome_marker_stored : (r : Receiver) (i : ℕ) (b store : List ℕ) → ReceiverArrays r → (marker_arrival r i b store).arrived.number ≡ 0
+pub outcome_marker_stored : (r : Receiver) (i : ℕ) (b store : List ℕ) → ReceiverArrays r → number_of (marker_arrival r i b store).arrived.answer ≡ 0
     → Stores r i 1 b store (marker_arrival r i b store)
-outcome_marker_stored r i b store = stores (marker_number r i b) r i 1 b store
+outcome_marker_stored r i b store = stores (marker_check r i b) r i 1 b store
 
 -- ---- the rows of the table
 
 -- an arrival answers the number that its checks give
-arrived_number : (own : ℕ) (r : Receiver) (i kind : ℕ) (b store : List ℕ) → (arrival_of own r i kind b store).arrived.number ≡ arrival_number own r i b store
+arrived_number : (own : Checked) (r : Receiver) (i kind : ℕ) (b store : List ℕ)
+    → number_of (arrival_of own r i kind b store).arrived.answer ≡ number_of (arrival_checks own r i b store)
 unfolding arrival_of arrival
 arrived_number own r i kind b store =
-    let number = arrival_number own r i b store in
-    settled (λ (a : Arrival). a.arrived.number ≡ number) number _ _ sym (λ n. refl)
+    let checks = arrival_checks own r i b store in
+    by_checks (λ (a : Arrival). number_of a.arrived.answer ≡ number_of checks) checks (λ e. sym (ap number_of e)) (λ k e. sym (ap number_of e))
 
 -- a state and its store: 2, 9
-pub lent_rows : {next : ℕ → Type 0} {rest : ℕ} (r : Receiver) (store : List ℕ) → (receiver_ok r ≡ true → store_fits r store ≡ true → Gives next rest)
-    → Gives (lent_to r store next) (check (receiver_ok r) 2 (check (store_fits r store) 9 rest))
+pub lent_rows : {next : ℕ → Type 0} {rest : Checked} (r : Receiver) (store : List ℕ) → (receiver_ok r ≡ true → store_fits r store ≡ true → Gives next rest)
+    → Gives (lent_to r store next) (check (receiver_ok r) refusal.State (check (store_fits r store) refusal.Store rest))
 lent_rows r store more =
-    unless 2 (receiver_ok r) (receiver_in r) (receiver_good r)
-    (λ v. equal_row 9 (length store) (r.plan.lines * r.rings.size) (λ e. more (receiver_good r v) (eq-eqb _ _ e)))
+    unless refusal.State (receiver_ok r) (receiver_in r) (receiver_good r)
+    (λ v. equal_row refusal.Store (length store) (r.plan.lines * r.rings.size) (λ e. more (receiver_good r v) (eq-eqb _ _ e)))
 
 -- 2, 9 and 3, then the rows of its own kind of item and 7
-arrival_rows : {rows : ℕ → Type 0} (own : ℕ) (r : Receiver) (i kind : ℕ) (b store : List ℕ) → Gives rows (check (eqb own 0) own (room_number r i b))
-    → lent_to r store (given 3 (r.plan.lines ≤ i) rows) (arrival_of own r i kind b store).arrived.number
+arrival_rows : {rows : ℕ → Type 0} (own : Checked) (r : Receiver) (i kind : ℕ) (b store : List ℕ) → Gives rows (result_and own (room_check r i b))
+    → lent_to r store (given 3 (r.plan.lines ≤ i) rows) (number_of (arrival_of own r i kind b store).arrived.answer)
 arrival_rows own r i kind b store more =
-    rw (arrived_number own r i kind b store) (lent_rows r store (λ _ _. below_row 3 i r.plan.lines (λ _. more))).proof
+    rw (arrived_number own r i kind b store) (lent_rows r store (λ _ _. below_row refusal.Line i r.plan.lines (λ _. more))).proof
 
 -- 7
-room_rows : (r : Receiver) (i : ℕ) (b : List ℕ) → Gives (room_on r i (length b)) (room_number r i b)
-room_rows r i b = at_most_row 7 (item_head + length b) (r.rings.size - (place_of r i).used) (λ _. ends)
+room_rows : (r : Receiver) (i : ℕ) (b : List ℕ) → Gives (room_on r i (length b)) (room_check r i b)
+room_rows r i b = at_most_row refusal.NoRoom (item_head + length b) (r.rings.size - (place_of r i).used) (λ _. ends)
 
 -- ---- data: 4
 
--- a check whose number is looked at by the next is a check before it
-own_check : (ok : Bool) (k rest : ℕ) → Not (k ≡ 0) → check (eqb (check ok k 0) 0) (check ok k 0) rest ≡ check ok k rest
-own_check true k rest some = refl
-own_check false k rest some = simp (ne_eqb k 0 some)
+-- a check and what is behind it
+own_check : (ok : Bool) (k : Refusal) (rest : Checked) → result_and (check ok k passed) rest ≡ check ok k rest
+own_check true k rest = refl
+own_check false k rest = refl
 
 data_rows : (r : Receiver) (i : ℕ) (b : List ℕ)
-    → Gives (given 4 (Not (From 1 r.plan.max (length b))) (room_on r i (length b))) (check (eqb (data_number r b) 0) (data_number r b) (room_number r i b))
+    → Gives (given 4 (Not (From 1 r.plan.max (length b))) (room_on r i (length b))) (result_and (data_check r b) (room_check r i b))
 data_rows r i b =
-    rw (own_check (in_range 1 (length b) r.plan.max) 4 (room_number r i b) (λ e. omega arith))
-    (range_row 4 1 (length b) r.plan.max (λ _. room_rows r i b))
+    rw (own_check (in_range 1 (length b) r.plan.max) refusal.Length (room_check r i b))
+    (range_row refusal.Length 1 (length b) r.plan.max (λ _. room_rows r i b))
 
 pub table_data_arrives : (r : Receiver) (i : ℕ) (b store : List ℕ)
     → lent_to r store (given 3 (r.plan.lines ≤ i) (given 4 (Not (From 1 r.plan.max (length b))) (room_on r i (length b))))
-    (data_arrival r i b store).arrived.number
-table_data_arrives r i b store = arrival_rows (data_number r b) r i 0 b store (data_rows r i b)
+    (number_of (data_arrival r i b store).arrived.answer)
+table_data_arrives r i b store = arrival_rows (data_check r b) r i 0 b store (data_rows r i b)
 
 -- ---- a marker: 5, 6
 
--- two checks likewise
-own_checks : (first second : Bool) (rest : ℕ)
-    → check (eqb (check first 5 (check second 6 0)) 0) (check first 5 (check second 6 0)) rest ≡ check first 5 (check second 6 rest)
-own_checks true true rest = refl
-own_checks true false rest = refl
-own_checks false second rest = refl
+-- two checks likewise, of a marker that they judge
+own_checks : (first second : Bool) (m : Marker) (rest : Checked)
+    → result_and (checked (judge (check first refusal.NoMarker (check second refusal.OtherLine passed)) m)) rest
+    ≡ check first refusal.NoMarker (check second refusal.OtherLine rest)
+unfolding judge
+own_checks true true m rest = refl
+own_checks true false m rest = refl
+own_checks false second m rest = refl
 
-module _ (i q : ℕ) (b : List ℕ) {rows : ℕ → Type 0} {rest : ℕ} (more : Gives rows rest) where
-  abbrev Rows : ℕ → Type 0
-  Rows n = Gives (given 5 (Not (MarkerTo q b)) (given 6 (Not (MarkerOf (λ line. line ≡ i) b)) rows)) n
+module _ (i q : ℕ) (b : List ℕ) {rows : ℕ → Type 0} {rest : Checked} (more : Gives rows rest) where
+  abbrev Rows : Checked → Type 0
+  Rows checks = Gives (given 5 (Not (MarkerTo q b)) (given 6 (Not (MarkerOf (λ line. line ≡ i) b)) rows)) checks
 
   -- bytes that are no record spell no marker
-  none_rows : (k : ℕ) → record_read b ≡ Refused k → Rows (check (eqb k 0) k rest)
+  none_rows : (k : Refusal) → record_read b ≡ Err k → Rows (Err k)
   none_rows k e =
-      let five : k ≡ 5 = only_five b k e in
+      let five : k ≡ refusal.NoMarker = only_five b k e in
       rw five (record { proof = inl (λ to. whole_not_refused (sym e ∙ spelled_reads b to.0 to.1 to.2 to.3), refl) })
 
   -- a record spells the marker that is read, and no other
-  whole_rows : Bytes b → (m : Marker) → record_read b ≡ Whole m → Rows (check (in_range 1 m.counter q) 5 (check (eqb m.line i) 6 rest))
+  whole_rows : Bytes b → (m : Marker) → record_read b ≡ Ok m → Rows (check (in_range 1 m.counter q) refusal.NoMarker (check (eqb m.line i) refusal.OtherLine rest))
   whole_rows bytes m e =
-      unless 5 (in_range 1 m.counter q) (λ t. (m.line, m.round, m.counter, own, from_range 1 m.counter q t))
+      unless refusal.NoMarker (in_range 1 m.counter q) (λ t. (m.line, m.round, m.counter, own, from_range 1 m.counter q t))
       (λ to. let h = read_counter b m e q to in in_range_lem 1 m.counter q h.0 h.1)
       (λ _.
-      unless 6 (eqb m.line i) (λ t. (m.line, m.round, m.counter, own, eqb-true m.line i t))
+      unless refusal.OtherLine (eqb m.line i) (λ t. (m.line, m.round, m.counter, own, eqb-true m.line i t))
       (λ on. eq-eqb m.line i (read_line b m e (λ line. line ≡ i) on)) (λ _. more))
     where
       own : MarkerSpelled b m.line m.round m.counter
       own = marker_spelled b m bytes e
 
-  marker_rows : Bytes b → Rows (check (eqb (number_of (marker_on i q b)) 0) (number_of (marker_on i q b)) rest)
+  marker_rows : Bytes b → Rows (result_and (checked (marker_on i q b)) rest)
   unfolding marker_on
   marker_rows bytes = go (record_read b) refl
     where
-      go : (t : MarkerRead) → record_read b ≡ t → Rows (check (eqb (number_of (judged (on_number i q) t)) 0) (number_of (judged (on_number i q) t)) rest)
-      go (Refused k) e = none_rows k e
-      go (Whole m) e = rw (judged_number (on_number i q m) m, own_checks (in_range 1 m.counter q) (eqb m.line i) rest) (whole_rows bytes m e)
+      go : (t : MarkerRead) → record_read b ≡ t → Rows (result_and (checked (judged (on_checks i q) t)) rest)
+      go (Err k) e = none_rows k e
+      go (Ok m) e = rw (own_checks (in_range 1 m.counter q) (eqb m.line i) m rest) (whole_rows bytes m e)
 
 pub table_marker_arrives : (r : Receiver) (i : ℕ) (b store : List ℕ) → Bytes b
     → lent_to r store
     (given 3 (r.plan.lines ≤ i) (given 5 (Not (MarkerTo (quantum r.plan i) b)) (given 6 (Not (MarkerOf (λ line. line ≡ i) b)) (room_on r i (length b)))))
-    (marker_arrival r i b store).arrived.number
+    (number_of (marker_arrival r i b store).arrived.answer)
 table_marker_arrives r i b store bytes =
-    arrival_rows (marker_number r i b) r i 1 b store (marker_rows i (quantum r.plan i) b (room_rows r i b) bytes)
+    arrival_rows (marker_check r i b) r i 1 b store (marker_rows i (quantum r.plan i) b (room_rows r i b) bytes)

@@ -11,21 +11,19 @@ use lib.Dec.{eqb}
 use lib.ListN.{length, take, drop, get_or, length-drop}
 use lib.Seq.{length-take-le, get_or-take, get_or-drop}
 use borrow.Author.Tests.{eqb-true, ne_eqb}
+use Rattle.std.specs.Prelude.{Ok, Err, Some, None}
 use Rattle.numbers.specs.Checks.{in_range}
 use Rattle.numbers.specs.Coding.{Bytes}
 use Rattle.numbers.proofs.Checks.{from_range, in_range_lem as is_in_range}
+use Rattle.numbers.proofs.Laws.{never, same_number}
 use Rattle.plan.specs.declared.LinePlan.{LinePlan}
 use Rattle.plan.specs.Limits.{item_head}
 use Rattle.plan.specs.Plan.{at, line_plan}
 use Rattle.marker.specs.declared.Marker.{Marker}
-use Rattle.marker.specs.declared.MarkerRead.{MarkerRead}
-use Rattle.marker.specs.declared.MarkerRead.TheVariants as read
-use Rattle.marker.specs.Marker.{marker_of, judge, judged}
-use Rattle.report.specs.Report.{on_number, marker_on}
+use Rattle.marker.specs.Marker.{MarkerRead, marker_of, judge, judged}
+use Rattle.report.specs.Report.{on_checks, marker_on}
 use Rattle.report.proofs.Laws.{both_good, on_line}
-use Rattle.ring.specs.declared.Front.{Front}
-use Rattle.ring.specs.declared.Front.TheVariants as front
-use Rattle.ring.specs.Ring.{held, front_of}
+use Rattle.ring.specs.Ring.{Front, held, front_of}
 use Rattle.ring.proofs.Laws.{held_length, held_byte_lem, told, cut_short, all_there, front_fits}
 use Rattle.receiving.specs.declared.Receiver.{Receiver}
 use Rattle.receiving.specs.declared.Held.{Held}
@@ -43,12 +41,12 @@ firsts f [] each = refl
 firsts f (x ∷ b) each = λ t. each 0 (omega arith) t ∷ firsts (λ k. f (suc k)) b (λ k h. each (suc k) (omega arith)) t
 
 -- an item in front is of the kind that the first byte tells, and as long as the next two tell
-front_tells : (s : List ℕ) {kind n : ℕ} → front_of s ≡ front.Item kind n → (kind ≡ get_or s 0 0) × (n ≡ told s)
+front_tells : (s : List ℕ) {kind n : ℕ} → front_of s ≡ Some (kind, n) → (kind ≡ get_or s 0 0) × (n ≡ told s)
 front_tells s {kind} {n} e =
     let long = front_fits s e in
     dite (dec_lt (length s - item_head) (told s))
-    (λ over. absurd (let is : front.Nothing ≡ front.Item kind n = cut_short s (omega arith) over ∙ e in let z : ◌≡◌ {A = ℕ} 0 1 = cc in omega arith))
-    (λ there. let is : front.Item (get_or s 0 0) (told s) ≡ front.Item kind n = all_there s (omega arith) (omega arith) ∙ e in (cc, cc))
+    (λ over. absurd (never (sym (cut_short s (omega arith) over)) e))
+    (λ there. let same = same_number (all_there s (omega arith) (omega arith) ∙ e) in (sym same.0, sym same.1))
 
 -- two items at one head are of one kind and have the same bytes
 pub same_head : (r : Receiver) (store : List ℕ) (i : ℕ) {k l : ℕ} {a b : List ℕ} → HeadIs r store i k a → HeadIs r store i l b → (k ≡ l) × (a ≡ b)
@@ -118,7 +116,7 @@ module _ (r : Receiver) (store : List ℕ) (i : ℕ) (good : receiver_ok r ≡ t
   abbrev behind : ℕ → List ℕ
   behind n = take n (drop item_head queue)
 
-  front_head : {kind n : ℕ} → front_of queue ≡ front.Item kind n → HeadIs r store i kind (behind n)
+  front_head : {kind n : ℕ} → front_of queue ≡ Some (kind, n) → HeadIs r store i kind (behind n)
   front_head {kind} {n} e =
       let all = long in
       let tells = front_tells queue e in
@@ -134,7 +132,7 @@ module _ (r : Receiver) (store : List ℕ) (i : ℕ) (good : receiver_ok r ≡ t
             (λ k below. get_or-take n (drop item_head queue) k 0 (omega arith) ∙ get_or-drop item_head queue k 0 ∙ queue_byte (3 + k) (omega arith));
       }
 
-  head_front : {kind : ℕ} {b : List ℕ} → HeadIs r store i kind b → front_of queue ≡ front.Item kind (length b)
+  head_front : {kind : ℕ} {b : List ℕ} → HeadIs r store i kind b → front_of queue ≡ Some (kind, (length b))
   head_front {kind} {b} is =
       let all = long in
       let inside = is.fits in
@@ -142,7 +140,7 @@ module _ (r : Receiver) (store : List ℕ) (i : ℕ) (good : receiver_ok r ≡ t
       let two = queue_byte 2 (omega arith) in
       let n-long : told queue ≡ length b = omega (arith, is.length_bytes) in
       sym (all_there queue (omega arith) (omega arith))
-      ∙ (λ k. front.Item ((queue_byte 0 (omega arith) ∙ is.kind_byte) k) (n-long k))
+      ∙ (λ k. Some ((queue_byte 0 (omega arith) ∙ is.kind_byte) k, n-long k))
 
   head_bytes : {kind : ℕ} {b : List ℕ} → HeadIs r store i kind b → behind (length b) ≡ b
   head_bytes is = (same_head r store i (front_head (head_front is)) is).1
@@ -170,9 +168,9 @@ module _ (r : Receiver) (store : List ℕ) (i : ℕ) (good : receiver_ok r ≡ t
   marker_head_lem {round} {counter} m =
       let n = marker_of i round counter in
       let b = m.bytes in
-      let holds : judge (on_number i p.quantum n) n ≡ read.Whole n =
+      let holds : judge (on_checks i p.quantum n) n ≡ Ok n =
       sym (both_good i p.quantum n (is_in_range 1 counter p.quantum m.in_range.0 m.in_range.1) refl) in
-      let is : marker_on i p.quantum b ≡ read.Whole n = ap (judged (on_number i p.quantum)) (spelled_reads b i round counter m.spelled) ∙ holds in
+      let is : marker_on i p.quantum b ≡ Ok n = ap (judged (on_checks i p.quantum)) (spelled_reads b i round counter m.spelled) ∙ holds in
       item_head_lem m.head ∙ sym (marker_item p i 1 b (λ z. omega arith) refl) ∙ ap (marker_head (length b)) is
 
   -- two markers at one head are one
@@ -193,8 +191,8 @@ module _ (r : Receiver) (store : List ℕ) (i : ℕ) (good : receiver_ok r ≡ t
       as_data z false e = no_head
 
       as_marker : kind ≡ 1 → (m : MarkerRead) → marker_on i p.quantum b ≡ m → Stands r store i (marker_head (length b) m)
-      as_marker z (read.Refused k) e = no_head
-      as_marker z (read.Whole m) e =
+      as_marker z (Err k) e = no_head
+      as_marker z (Ok m) e =
           let on = on_line i p.quantum b m e in
           let own : marker_of i m.round m.counter ≡ m = ap (λ (l : ℕ). marker_of l m.round m.counter) (sym on.3) in
           let spelled = marker_spelled b m (head_is_bytes r store i is bytes) on.0 in
@@ -218,8 +216,8 @@ module _ (r : Receiver) (store : List ℕ) (i : ℕ) (good : receiver_ok r ≡ t
     where
       go : (t : Bool) → eqb h.used 0 ≡ t → (f : Front) → front_of queue ≡ f → Stands r store i (cond t nothing (front_on p i queue f))
       go true e f q = no_bytes (eqb-true h.used 0 e)
-      go false e front.Nothing q = no_head
-      go false e (front.Item kind n) q = item_stands bytes kind (behind n) (front_head q)
+      go false e None q = no_head
+      go false e (Some (kind, n)) q = item_stands bytes kind (behind n) (front_head q)
 
   -- so each of the four is found exactly where it stands
   pub head_nothing : Bytes store → head ≡ nothing → at r.rings.used i ≡ 0

@@ -8,25 +8,25 @@ use mathlib.Core.Logic.{◌⊎◌, inl, inr}
 use lib.Dec.{leb}
 use lib.ListN.{length, take, drop, set, length-append, length-drop, length-set}
 use lib.Seq.{length-take-le, drop-drop, drop-append-add, drop-append_seam, drop-set-lt, get_or-set_other}
-use Rattle.numbers.specs.Checks.{check}
+use Rattle.std.specs.Prelude.{Some, None, Ok, Err}
+use Rattle.numbers.specs.declared.Refusal.{Refusal}
+use Rattle.numbers.specs.declared.Refusal.TheVariants as refusal
+use Rattle.numbers.specs.Refusals.{number_of}
+use Rattle.numbers.specs.Checks.{check, checked}
 use Rattle.numbers.proofs.Checks.{never}
 use Rattle.plan.specs.declared.LinePlan.{LinePlan}
 use Rattle.plan.specs.Plan.{line_plan}
-use Rattle.report.specs.declared.Report.{Report}
-use Rattle.report.specs.declared.Report.TheVariants as report
-use Rattle.report.specs.Report.{report_of}
+use Rattle.report.specs.Report.{Report, report_of}
 use Rattle.ring.specs.Ring.{onto}
 use Rattle.receiving.specs.declared.Receiver.{Receiver}
 use Rattle.receiving.specs.declared.Line.{Line}
-use Rattle.receiving.specs.declared.Taken.{Taken}
-use Rattle.receiving.specs.declared.Taken.TheVariants.{Waiting, Data, Missing, Behind, Refused}
+use Rattle.receiving.specs.declared.Taken.TheVariants.{Waiting, Data, Missing, Behind}
 use Rattle.receiving.specs.declared.TakeResult.{TakeResult}
-use Rattle.receiving.specs.declared.Ended.{Ended}
 use Rattle.receiving.specs.declared.Ended.TheVariants as ended
 use Rattle.receiving.specs.Receiver.{line_of, current_line, receiver_ok, store_fits, ring_of}
 use Rattle.receiving.specs.Taking.{Head, nothing, packet, marker, no_item, head_on, Stepped, stays, past, charged_turn, step_of, told_step}
-use Rattle.receiving.specs.Taking.{taken_number, TakeOutcome, refused_take, taken, take_at, take_of}
-use Rattle.receiving.specs.Takes.{ended_number, word_of, bytes_of, end_of, goes_on, Run, stopped, takes_from, takes_of}
+use Rattle.receiving.specs.Taking.{TakeAnswer, taken_number, TakeOutcome, refused_take, taken, take_at, take_of}
+use Rattle.receiving.specs.Takes.{RunEnd, ended_number, word_of, bytes_of, end_of, goes_on, Run, stopped, takes_from, takes_of}
 use Rattle.receiving.proofs.Taking.{state_refused}
 use Rattle.receiving.proofs.Valid.{refused_stays, kept_sizes, out_length, bytes_fit}
 use Rattle.receiving.proofs.Runs.{run_of}
@@ -40,7 +40,7 @@ use Rattle.calls.proofs.Arrivals.{lent_rows}
 -- ---- one take
 
 -- a take is refused with everything as it was, or the current line steps by some head
-take_cases : (P : TakeOutcome → Type 0) (r : Receiver) (store out : List ℕ) → ((k : ℕ) → P (refused_take r k out))
+take_cases : (P : TakeOutcome → Type 0) (r : Receiver) (store out : List ℕ) → ((k : Refusal) → P (refused_take r k out))
     → (let i = current_line r in (size : ℕ) (h : Head) → P (taken r i (step_of (line_plan r.plan i) size i (line_of r i) out h))) → P (take_of r store out)
 unfolding take_of
 take_cases P r store out refuses steps = go (receiver_ok r) (store_fits r store)
@@ -48,13 +48,13 @@ take_cases P r store out refuses steps = go (receiver_ok r) (store_fits r store)
     i : ℕ
     i = current_line r
 
-    go : (t u : Bool) → P (cond t (cond u (take_at r i store out) (refused_take r 9 out)) (refused_take r 2 out))
+    go : (t u : Bool) → P (cond t (cond u (take_at r i store out) (refused_take r refusal.Store out)) (refused_take r refusal.State out))
     go true true = let ring = ring_of r.rings.size store i in steps (length ring) (head_on (line_plan r.plan i) i (line_of r i).held ring)
-    go true false = refuses 9
-    go false u = refuses 2
+    go true false = refuses refusal.Store
+    go false u = refuses refusal.State
 
 -- what a step leaves of the output is all that is behind its bytes
-abbrev Leaves : List ℕ → Taken → List ℕ → Type 0
+abbrev Leaves : List ℕ → TakeAnswer → List ℕ → Type 0
 Leaves out answer new = drop (bytes_of answer) new ≡ drop (bytes_of answer) out
 
 step_leaves : (p : LinePlan) (size i : ℕ) (l : Line) (out : List ℕ) (h : Head) → let s = step_of p size i l out h in Leaves out s.step.answer s.out
@@ -63,16 +63,16 @@ step_leaves p size i l out no_item = refl
 step_leaves p size i l out (packet b) = go (leb (length b) (length out))
   where
     went : Stepped
-    went = record { step = record { answer = Data i (length b); line = past size l (length b) (charged_turn p l.turn (length b)) }; out = onto b out }
+    went = record { step = record { answer = Ok (Data i (length b)); line = past size l (length b) (charged_turn p l.turn (length b)) }; out = onto b out }
 
-    go : (t : Bool) → let s = cond t went (stays l (Refused 8) out) in Leaves out s.step.answer s.out
+    go : (t : Bool) → let s = cond t went (stays l (Err refusal.ShortOutput) out) in Leaves out s.step.answer s.out
     go true = drop-append_seam b (drop (length b) out)
     go false = refl
 step_leaves p size i l out (marker n m) = go (report_of p.quantum l.turn.round l.turn.counter m)
   where
     go : (t : Report) → Leaves out (told_step size i l n m t).answer out
-    go report.Behind = refl
-    go (report.Missing x) = refl
+    go None = refl
+    go (Some x) = refl
 
 module _ (r : Receiver) (store out : List ℕ) where
   abbrev take_of_lem : TakeOutcome
@@ -94,12 +94,12 @@ module _ (r : Receiver) (store out : List ℕ) where
       })
 
 -- only data writes bytes
-no_bytes : (answer : Taken) → ((i n : ℕ) → Not (answer ≡ Data i n)) → bytes_of answer ≡ 0
-no_bytes (Waiting line) none = refl
-no_bytes (Data line n) none = absurd (none line n refl)
-no_bytes (Missing line missing) none = refl
-no_bytes (Behind line) none = refl
-no_bytes (Refused k) none = refl
+no_bytes : (answer : TakeAnswer) → ((i n : ℕ) → Not (answer ≡ Ok (Data i n))) → bytes_of answer ≡ 0
+no_bytes (Ok (Waiting line)) none = refl
+no_bytes (Ok (Data line n)) none = absurd (none line n refl)
+no_bytes (Ok (Missing line missing)) none = refl
+no_bytes (Ok (Behind line)) none = refl
+no_bytes (Err k) none = refl
 
 pub frame_takes : (r : Receiver) (store out : List ℕ) → TakesFrame r out (take_of r store out)
 frame_takes r store out =
@@ -172,7 +172,7 @@ take_entries r store out j off = go (receiver_ok r) refl
     go false bad = subst (λ (t : TakeResult). ReceiverEntry r t.next j) (state_refused r store out bad).0 (same_entry r j)
 
 -- it stops there
-left_here : (end : Ended) (r : Receiver) (k from : ℕ) (out log : List ℕ) → Left r k from out log (stopped end r k from out log)
+left_here : (end : RunEnd) (r : Receiver) (k from : ℕ) (out log : List ℕ) → Left r k from out log (stopped end r k from out log)
 left_here end r k from out log = record {
   takes = omega arith;
   bytes = omega arith;
@@ -228,7 +228,7 @@ module _ (store : List ℕ) (r : Receiver) (k from : ℕ) (out log : List ℕ) (
 run_left : (n : ℕ) (store : List ℕ) (r : Receiver) (k from : ℕ) (out log : List ℕ) → from ≤ length out
     → Left r k from out log (takes_from n store r k from out log)
 unfolding takes_from
-run_left zero store r k from out log inside = left_here ended.Full r k from out log
+run_left zero store r k from out log inside = left_here (Ok ended.Full) r k from out log
 run_left (suc n) store r k from out log inside =
     run_step (Left r k from out log) n store r k from out log
     (left_on store r k from out log inside _ (run_left n store _ (suc k) _ _ _ (next_inside store r k from out log inside)))
@@ -250,10 +250,10 @@ frame_runs r store out log =
   where
     go : (t u : Bool)
         → Left r 0 0 out log
-        (cond t (cond u (takes_from (length log) store r 0 0 out log) (stopped (ended.Refused 9) r 0 0 out log)) (stopped (ended.Refused 2) r 0 0 out log))
+        (cond t (cond u (takes_from (length log) store r 0 0 out log) (stopped (Err refusal.Store) r 0 0 out log)) (stopped (Err refusal.State) r 0 0 out log))
     go true true = run_left (length log) store r 0 0 out log (omega arith)
-    go true false = left_here (ended.Refused 9) r 0 0 out log
-    go false u = left_here (ended.Refused 2) r 0 0 out log
+    go true false = left_here (Err refusal.Store) r 0 0 out log
+    go false u = left_here (Err refusal.State) r 0 0 out log
 
 -- ---- the number that it ends with
 
@@ -264,12 +264,12 @@ EndsRight store most run n =
     ⊎ ((run.result.taken < most) × (n ≡ taken_number (take_of run.result.next store (drop run.result.bytes run.out)).result.answer))
 
 -- a take that a run stops before has that run's number
-end_number : (answer : Taken) → goes_on answer ≡ false → ended_number (end_of answer) ≡ taken_number answer
-end_number (Waiting line) e = refl
-end_number (Data line n) e = absurd (never e)
-end_number (Missing line missing) e = absurd (never e)
-end_number (Behind line) e = absurd (never e)
-end_number (Refused k) e = refl
+end_number : (answer : TakeAnswer) → goes_on answer ≡ false → ended_number (end_of answer) ≡ taken_number answer
+end_number (Ok (Waiting line)) e = refl
+end_number (Ok (Data line n)) e = absurd (never e)
+end_number (Ok (Missing line missing)) e = absurd (never e)
+end_number (Ok (Behind line)) e = absurd (never e)
+end_number (Err k) e = refl
 
 run_ends : (most n : ℕ) (store : List ℕ) (r : Receiver) (k from : ℕ) (out log : List ℕ) → k + n ≡ most
     → let run = takes_from n store r k from out log in
@@ -280,10 +280,16 @@ run_ends most (suc n) store r k from out log sum =
     run_step (λ run. EndsRight store most run (ended_number run.result.ended)) n store r k from out log
     (run_ends most n store _ (suc k) _ _ _ (omega arith)) (λ e. inr (omega arith, end_number (take_of r store (drop from out)).result.answer e))
 
+-- and an end seen as checks does
+checked_end : (end : RunEnd) → number_of (checked end) ≡ ended_number end
+checked_end (Ok ended.Full) = refl
+checked_end (Ok (ended.Waiting line)) = refl
+checked_end (Err k) = refl
+
 -- a run answers the number that its checks give, or its takes
 run_number : (r : Receiver) (store out log : List ℕ)
     → ended_number (takes_of r store out log).result.ended
-    ≡ check (receiver_ok r) 2 (check (store_fits r store) 9 (ended_number (takes_from (length log) store r 0 0 out log).result.ended))
+    ≡ number_of (check (receiver_ok r) refusal.State (check (store_fits r store) refusal.Store (checked (takes_from (length log) store r 0 0 out log).result.ended)))
 unfolding takes_of
 run_number r store out log = go (receiver_ok r) (store_fits r store)
   where
@@ -291,17 +297,18 @@ run_number r store out log = go (receiver_ok r) (store_fits r store)
     run = takes_from (length log) store r 0 0 out log
 
     go : (t u : Bool)
-        → ended_number (cond t (cond u run (stopped (ended.Refused 9) r 0 0 out log)) (stopped (ended.Refused 2) r 0 0 out log)).result.ended
-        ≡ check t 2 (check u 9 (ended_number run.result.ended))
-    go true true = refl
+        → ended_number (cond t (cond u run (stopped (Err refusal.Store) r 0 0 out log)) (stopped (Err refusal.State) r 0 0 out log)).result.ended
+        ≡ number_of (check t refusal.State (check u refusal.Store (checked run.result.ended)))
+    go true true = sym (checked_end run.result.ended)
     go true false = refl
     go false u = refl
 
 -- past the checks, from the first take on
 full_run : (r : Receiver) (store out log : List ℕ) → receiver_ok r ≡ true → store_fits r store ≡ true
-    → Gives (EndsRight store (length log) (takes_of r store out log)) (ended_number (takes_from (length log) store r 0 0 out log).result.ended)
+    → Gives (EndsRight store (length log) (takes_of r store out log)) (checked (takes_from (length log) store r 0 0 out log).result.ended)
 full_run r store out log good fits = record {
-  proof = rw (← run_of r store out log good fits) (run_ends (length log) (length log) store r 0 0 out log (omega arith));
+  proof = rw (← run_of r store out log good fits, checked_end (takes_from (length log) store r 0 0 out log).result.ended)
+      (run_ends (length log) (length log) store r 0 0 out log (omega arith));
 }
 
 pub table_runs : (r : Receiver) (store out log : List ℕ)

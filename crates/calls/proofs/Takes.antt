@@ -8,6 +8,8 @@ use mathlib.Core.Logic.{◌⊎◌, dite, inl, inr, ⊎_elim}
 use mathlib.Core.Path.{◌≡◌, refl, ap, sym, ◌∙◌, subst}
 use lib.ListN.{length, drop}
 use borrow.Author.Tests.{eq-eqb, eqb-true, eqb-false, le-leb, lt-leb}
+use Rattle.std.specs.Prelude.{Some, None, Ok, Err}
+use Rattle.numbers.specs.declared.Refusal.TheVariants as refusal
 use Rattle.numbers.specs.Coding.{Bytes}
 use Rattle.numbers.specs.Wrap.{half}
 use Rattle.numbers.proofs.Checks.{never}
@@ -19,9 +21,7 @@ use Rattle.marker.specs.declared.Marker.{Marker}
 use Rattle.marker.specs.Marker.{marker_of}
 use Rattle.theory.specs.Sending.{best}
 use Rattle.theory.proofs.Choose.{best_wins}
-use Rattle.report.specs.declared.Report.{Report}
-use Rattle.report.specs.declared.Report.TheVariants as report
-use Rattle.report.specs.Report.{ahead, missing, report_of}
+use Rattle.report.specs.Report.{Report, ahead, missing, report_of}
 use Rattle.report.proofs.Laws.{far_behind, counter_behind, same_round, later_round}
 use Rattle.receiving.specs.declared.Receiver.{Receiver}
 use Rattle.receiving.specs.declared.Held.{Held}
@@ -77,7 +77,7 @@ module _ (r : Receiver) (i round counter : ℕ) where
 
   -- it is behind and told so, or it is not and what is missing is told
   abbrev Settled : Type 0
-  Settled = (BehindLine r i round counter × Tells report.Behind) ⊎ (Not (BehindLine r i round counter) × Tells (report.Missing short))
+  Settled = (BehindLine r i round counter × Tells None) ⊎ (Not (BehindLine r i round counter) × Tells (Some short))
 
   tells : Settled
   tells = go (dec_lt d half) (ℕ_discrete d 0) (dec_lt line_counter counter)
@@ -93,10 +93,10 @@ module _ (r : Receiver) (i round counter : ℕ) where
       go (yes near) (no z) _ =
           inr (λ b. ⊎_elim (λ f. omega arith) (λ s. z s.0) (behind_by b), sym (later_round q line_round line_counter m near z))
 
-  behind_told : BehindLine r i round counter → Tells report.Behind
+  behind_told : BehindLine r i round counter → Tells None
   behind_told b = ⊎_elim (λ t. t.1) (λ t. absurd (t.0 b)) tells
 
-  missing_told : Not (BehindLine r i round counter) → Tells (report.Missing short)
+  missing_told : Not (BehindLine r i round counter) → Tells (Some short)
   missing_told not = ⊎_elim (λ t. absurd (not t.0)) (λ t. t.1) tells
 
 -- ---- new figures for a line
@@ -245,7 +245,7 @@ module _ (r : Receiver) (store out : List ℕ) (good : receiver_ok r ≡ true) (
 
     abbrev HandsOut : List ℕ → TakeOutcome → Type 0
     HandsOut b t =
-        (t.result.answer ≡ taken.Data i (length b)) × (t.out ≡ b ++ drop (length b) out) × Removes r t.result.next i (length b)
+        (t.result.answer ≡ Ok (taken.Data i (length b))) × (t.out ≡ b ++ drop (length b) out) × Removes r t.result.next i (length b)
         × Charged (length b) (turn_of t.result.next.turns i) × MovesOn r t.result.next
 
     hands : (b : List ℕ) → DataHead r store i b → length b ≤ length out → HandsOut b (take_of r store out)
@@ -259,11 +259,11 @@ module _ (r : Receiver) (store out : List ℕ) (good : receiver_ok r ≡ true) (
 
     -- a marker that is behind, and one that is not
     abbrev Keeps : ℕ → TakeOutcome → Type 0
-    Keeps n t = (t.result.answer ≡ taken.Behind i) × (t.out ≡ out) × Removes r t.result.next i n × (t.result.next.turns ≡ r.turns)
+    Keeps n t = (t.result.answer ≡ Ok (taken.Behind i)) × (t.out ≡ out) × Removes r t.result.next i n × (t.result.next.turns ≡ r.turns)
 
     abbrev Reports : ℕ → Marker → TakeOutcome → Type 0
     Reports n m t =
-        (t.result.answer ≡ taken.Missing i (missing p.quantum l.turn.round l.turn.counter m)) × (t.out ≡ out) × Removes r t.result.next i n
+        (t.result.answer ≡ Ok (taken.Missing i (missing p.quantum l.turn.round l.turn.counter m))) × (t.out ≡ out) × Removes r t.result.next i n
         × (at t.result.next.turns.rounds i ≡ m.round) × (at t.result.next.turns.counters i ≡ m.counter) × MovesOn r t.result.next
 
     abbrev told_by : ℕ → Marker → Report → TakeOutcome
@@ -293,20 +293,20 @@ module _ (r : Receiver) (store out : List ℕ) (good : receiver_ok r ≡ true) (
     outcomes = record {
       waits = λ z.
           took (empty_head r store i good fits line z)
-          ∙ ap (λ (x : Receiver). record { result = record { answer = taken.Waiting i; next = x }; out = out }) (stays_put r good);
+          ∙ ap (λ (x : Receiver). record { result = record { answer = Ok (taken.Waiting i); next = x }; out = out }) (stays_put r good);
       no_item = λ bytes some none.
           took (head_no_item r store i good fits line bytes some none)
-          ∙ ap (λ (x : Receiver). record { result = record { answer = taken.Refused 9; next = x }; out = out }) (stays_put r good);
+          ∙ ap (λ (x : Receiver). record { result = record { answer = Err refusal.Store; next = x }; out = out }) (stays_put r good);
       too_long = λ b d more.
           took (data_head_lem r store i good fits line d)
           ∙ ap (taken_by r i) (simp (lt-leb (length b) (length out) more))
-          ∙ ap (λ (x : Receiver). record { result = record { answer = taken.Refused 8; next = x }; out = out }) (stays_put r good);
+          ∙ ap (λ (x : Receiver). record { result = record { answer = Err refusal.ShortOutput; next = x }; out = out }) (stays_put r good);
       hands_out = hands;
       behind = keeps;
       missing = λ round counter d m is not.
           let t = reports round counter m not in
           let only = sym (ahead_only round l.turn.round d is) in
-          (t.0 ∙ ap (λ (x : ℕ). taken.Missing i (x * p.quantum + l.turn.counter - counter)) only, t.1, t.2, t.3, t.4, t.5);
+          (t.0 ∙ ap (λ (x : ℕ). Ok (taken.Missing i (x * p.quantum + l.turn.counter - counter))) only, t.1, t.2, t.3, t.4, t.5);
     }
 
 -- ---- both theorems

@@ -1,12 +1,12 @@
 -- The edges of the ranges, and numbers of one to five bytes, as literals.
 use Rattle.std.specs.Prelude.{ℕ, ◌+◌, ◌%◌, [], ◌∷◌, ◌≡◌, replicate}
+use Rattle.numbers.specs.Refusals.{number_of}
 use Rattle.numbers.specs.Coding.{yields, reading_of, coded}
 use Rattle.plan.specs.declared.Plan.{Plan}
-use Rattle.sending.specs.Sender.{sent_number, open_sender, send_of}
+use Rattle.sending.specs.Sender.{open_sender, send_of}
 use Rattle.receiving.specs.Receiver.{open_receiver}
 use Rattle.receiving.specs.Arriving.{data_arrival}
-use Rattle.marker.specs.Marker.{number_of, marker_of, marker_written, marker_bytes, marker_read}
-use Rattle.numbers.specs.Writing.{written_number}
+use Rattle.marker.specs.Marker.{marker_of, marker_written, marker_bytes, marker_read}
 
 -- one line, or so many, of one quantum
 abbrev pub alike : ℕ → ℕ → ℕ → ℕ → Plan
@@ -14,15 +14,15 @@ alike lines max interval quantum = record { lines = lines; max = max; interval =
 
 -- what opening a sender on such a plan answers
 abbrev pub opening : ℕ → ℕ → ℕ → ℕ → ℕ
-opening lines max interval quantum = (open_sender (alike lines max interval quantum)).number
+opening lines max interval quantum = number_of (open_sender (alike lines max interval quantum))
 
 -- and a receiver with S bytes a line, Max 64
 abbrev pub storing : ℕ → ℕ
-storing size = (open_receiver (alike 1 64 1 64) size).number
+storing size = number_of (open_receiver (alike 1 64 1 64) size)
 
 -- the standalone marker calls, of line, round 1 and counter
 abbrev pub writing : ℕ → ℕ → ℕ
-writing line counter = written_number (marker_written (marker_of line 1 counter) (replicate 9 0)).answer
+writing line counter = number_of (marker_written (marker_of line 1 counter) (replicate 9 0)).answer
 
 abbrev pub reading : ℕ → ℕ → ℕ
 reading line counter = number_of (marker_read (marker_bytes (marker_of line 1 counter)))
@@ -30,18 +30,18 @@ reading line counter = number_of (marker_read (marker_bytes (marker_of line 1 co
 -- a send of so many bytes, Max 64, from a state with that counter, its quantum 100
 abbrev pub sending : ℕ → ℕ → ℕ
 sending counter size =
-    sent_number (send_of (record { plan = alike 1 64 1 100; line = 0; countdown = 1; rounds = replicate 16 1; counters = replicate 16 counter }) size).answer
+    number_of (send_of (record { plan = alike 1 64 1 100; line = 0; countdown = 1; rounds = replicate 16 1; counters = replicate 16 counter }) size).answer
 
 -- data that comes on line 0 while line 1 is so many rounds ahead
 abbrev pub arriving : ℕ → ℕ
 arriving ahead =
-    (data_arrival
+    number_of (data_arrival
     (record {
       plan = alike 2 64 1 64;
       rings = record { size = 67; heads = replicate 16 0; used = replicate 16 0 };
       turns = record { round = 4294967295; rounds = 4294967295 ∷ (4294967295 + ahead) % 4294967296 ∷ replicate 14 0; counters = replicate 16 64 };
     })
-    0 (7 ∷ []) (replicate 134 0)).arrived.number
+    0 (7 ∷ []) (replicate 134 0)).arrived.answer
 
 -- each range at its two edges, and one beyond
 pub record Edges : Type 0 where

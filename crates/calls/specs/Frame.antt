@@ -1,17 +1,19 @@
 -- The frame: what each call leaves as it was. Of any plan, state, length, bytes and buffers, reached or not.
-use Rattle.std.specs.Prelude.{ℕ, ◌+◌, ◌≤◌, ◌<◌, List, [], ◌∷◌, ◌≡◌, length, drop}
+use Rattle.std.specs.Prelude.{ℕ, ◌+◌, ◌≤◌, ◌<◌, List, [], ◌∷◌, ◌≡◌, length, drop, Ok, Err}
 use Rattle.numbers.specs.Coding.{coded}
-use Rattle.numbers.specs.Writing.{written_number, length_of, Outcome, written}
+use Rattle.numbers.specs.Writing.{length_of, Outcome, written}
+use Rattle.numbers.specs.declared.Refusal.{Refusal}
+use Rattle.numbers.specs.Refusals.{number_of}
 use Rattle.plan.specs.declared.Plan.{Plan}
 use Rattle.plan.specs.Plan.{at}
-use Rattle.plan_record.specs.Record.{plan_read, plan_written}
+use Rattle.plan_record.specs.Record.{plan_read, plan_of, plan_written}
 use Rattle.marker.specs.declared.Marker.{Marker}
-use Rattle.marker.specs.Marker.{number_of, values_of, marker_read, marker_written}
+use Rattle.marker.specs.Marker.{values_of, marker_read, marker_written}
 use Rattle.sending.specs.declared.Sender.{Sender}
-use Rattle.sending.specs.Sender.{sent_number, open_sender, send_of, marker_from}
+use Rattle.sending.specs.Sender.{open_sender, sender_of, send_of, marker_from}
 use Rattle.receiving.specs.declared.Receiver.{Receiver}
 use Rattle.receiving.specs.declared.Taken.TheVariants as taken
-use Rattle.receiving.specs.Receiver.{open_receiver}
+use Rattle.receiving.specs.Receiver.{open_receiver, receiver_of}
 use Rattle.receiving.specs.Arriving.{Arrival, data_arrival, marker_arrival}
 use Rattle.receiving.specs.Taking.{TakeOutcome, take_of}
 use Rattle.receiving.specs.Takes.{Run, takes_of}
@@ -23,7 +25,7 @@ use Rattle.calls.specs.Plain.{Not, Current, place_in}
 pub record Writes (out : List ℕ) (o : Outcome) : Type 0 where
   pub same_length : length o.out ≡ length out
   pub behind : drop (length_of o.answer) o.out ≡ drop (length_of o.answer) out
-  pub refused : Not (written_number o.answer ≡ 0) → o.out ≡ out
+  pub refused : Not (number_of o.answer ≡ 0) → o.out ≡ out
 
 -- ---- states
 
@@ -41,7 +43,7 @@ pub record ReceiverEntry (r next : Receiver) (j : ℕ) : Type 0 where
 -- An arrival on line i: a refusal leaves everything. Else the plan, S, every head and every turn stay, and what other lines hold; and every byte of
 -- the store but the item's own places, of which there are 3 + n behind what the line holds.
 pub record Arrives (r : Receiver) (i : ℕ) (b store : List ℕ) (a : Arrival) : Type 0 where
-  pub refused : Not (a.arrived.number ≡ 0) → (a.arrived.next ≡ r) × (a.store ≡ store)
+  pub refused : Not (number_of a.arrived.answer ≡ 0) → (a.arrived.next ≡ r) × (a.store ≡ store)
   pub plan : a.arrived.next.plan ≡ r.plan
   pub size : a.arrived.next.rings.size ≡ r.rings.size
   pub heads : (j : ℕ) → at a.arrived.next.rings.heads j ≡ at r.rings.heads j
@@ -59,10 +61,10 @@ pub record TakesFrame (r : Receiver) (out : List ℕ) (t : TakeOutcome) : Type 0
   pub size : t.result.next.rings.size ≡ r.rings.size
   pub others : (i j : ℕ) → Current r i → Not (j ≡ i) → ReceiverEntry r t.result.next j
   pub same_length : length t.out ≡ length out
-  pub data_only : ((i n : ℕ) → Not (t.result.answer ≡ taken.Data i n)) → t.out ≡ out
-  pub behind_data : (i n : ℕ) → t.result.answer ≡ taken.Data i n → drop n t.out ≡ drop n out
-  pub waits : (i : ℕ) → t.result.answer ≡ taken.Waiting i → t.result.next ≡ r
-  pub refused : (k : ℕ) → t.result.answer ≡ taken.Refused k → t.result.next ≡ r
+  pub data_only : ((i n : ℕ) → Not (t.result.answer ≡ Ok (taken.Data i n))) → t.out ≡ out
+  pub behind_data : (i n : ℕ) → t.result.answer ≡ Ok (taken.Data i n) → drop n t.out ≡ drop n out
+  pub waits : (i : ℕ) → t.result.answer ≡ Ok (taken.Waiting i) → t.result.next ≡ r
+  pub refused : (refusal : Refusal) → t.result.answer ≡ Err refusal → t.result.next ≡ r
 
 -- A run writes its packets at the front of the output and its words at the front of the log, and leaves what is behind them; the plan and S stay, and every
 -- entry from line N on.
@@ -91,18 +93,18 @@ pub record Frame : Type 0 where
   pub writes_marker : (m : Marker) (out : List ℕ) → Writes out (marker_written m out)
   pub asks : (s : Sender) (i : ℕ) (out : List ℕ) → Writes out (marker_from s i out)
   -- refused readings and openings are all zeros
-  pub reads_plan : (b : List ℕ) → Not ((plan_read b).number ≡ 0) → (plan_read b).plan ≡ zero_plan
+  pub reads_plan : (b : List ℕ) → Not (number_of (plan_read b) ≡ 0) → plan_of (plan_read b) ≡ zero_plan
   pub reads_marker : (b : List ℕ) → Not (number_of (marker_read b) ≡ 0) → values_of (marker_read b) ≡ 0 ∷ 0 ∷ 0 ∷ []
-  pub opens_sender : (p : Plan) → Not ((open_sender p).number ≡ 0)
-      → (open_sender p).sender ≡ record { plan = zero_plan; line = 0; countdown = 0; rounds = sixteen_zeros; counters = sixteen_zeros }
-  pub opens_receiver : (p : Plan) (size : ℕ) → Not ((open_receiver p size).number ≡ 0)
-      → (open_receiver p size).receiver ≡ record {
+  pub opens_sender : (p : Plan) → Not (number_of (open_sender p) ≡ 0)
+      → sender_of (open_sender p) ≡ record { plan = zero_plan; line = 0; countdown = 0; rounds = sixteen_zeros; counters = sixteen_zeros }
+  pub opens_receiver : (p : Plan) (size : ℕ) → Not (number_of (open_receiver p size) ≡ 0)
+      → receiver_of (open_receiver p size) ≡ record {
         plan = zero_plan;
         rings = record { size = 0; heads = sixteen_zeros; used = sixteen_zeros };
         turns = record { round = 0; rounds = sixteen_zeros; counters = sixteen_zeros };
       }
   -- a send leaves the plan and every line but its own, those from N on among them; a refusal leaves everything
-  pub sends_refused : (s : Sender) (n : ℕ) → Not (sent_number (send_of s n).answer ≡ 0) → (send_of s n).next ≡ s
+  pub sends_refused : (s : Sender) (n : ℕ) → Not (number_of (send_of s n).answer ≡ 0) → (send_of s n).next ≡ s
   pub sends_plan : (s : Sender) (n : ℕ) → (send_of s n).next.plan ≡ s.plan
   pub sends_others : (s : Sender) (n j : ℕ) → Not (j ≡ s.line) → SenderEntry s (send_of s n).next j
   -- the stage

@@ -1,24 +1,23 @@
 -- What an accepted call answers and leaves, in plain figures. Of any valid state, reached or not.
-use Rattle.std.specs.Prelude.{ℕ, ◌+◌, ◌-◌, ◌*◌, ◌/◌, ◌%◌, ◌≤◌, ◌<◌, List, [], ◌∷◌, ◌++◌, ◌≡◌, length, take, drop}
-use Rattle.numbers.specs.declared.Written.TheVariants as written
+use Rattle.std.specs.Prelude.{ℕ, ◌+◌, ◌-◌, ◌*◌, ◌/◌, ◌%◌, ◌≤◌, ◌<◌, List, [], ◌∷◌, ◌++◌, ◌≡◌, length, take, drop, Ok, Err}
 use Rattle.numbers.specs.Coding.{Bytes, yields, reading_of, coded, row_bytes}
-use Rattle.numbers.specs.Writing.{Outcome, written_number}
+use Rattle.numbers.specs.Writing.{Outcome}
 use Rattle.numbers.specs.Writing as writing
+use Rattle.numbers.specs.declared.Refusal.TheVariants as refusal
+use Rattle.numbers.specs.Refusals.{number_of}
 use Rattle.plan.specs.declared.Plan.{Plan}
 use Rattle.plan.specs.Plan.{at, quantum, line_plan, charge_of}
 use Rattle.plan.specs.Ranges.{From, PlanIn, StoreIn}
 use Rattle.plan_record.specs.Record.{plan_read, plan_written}
 use Rattle.marker.specs.declared.Marker.{Marker}
-use Rattle.marker.specs.declared.MarkerRead.TheVariants.{Whole}
 use Rattle.marker.specs.Marker.{marker_read, marker_written}
 use Rattle.theory.specs.FirstForm.{first_send, first_due}
 use Rattle.sending.specs.declared.Sender.{Sender}
-use Rattle.sending.specs.declared.Sent.TheVariants as sent
-use Rattle.sending.specs.Sender.{open_sender, send_of, marker_from}
+use Rattle.sending.specs.Sender.{went_to, open_sender, sender_of, send_of, marker_from}
 use Rattle.sending.specs.InTheory.{in_theory, figures_of}
 use Rattle.receiving.specs.declared.Receiver.{Receiver}
 use Rattle.receiving.specs.declared.Taken.TheVariants as taken
-use Rattle.receiving.specs.Receiver.{open_receiver}
+use Rattle.receiving.specs.Receiver.{open_receiver, receiver_of}
 use Rattle.receiving.specs.Arriving.{Arrival, data_arrival, marker_arrival}
 use Rattle.receiving.specs.Taking.{take_of}
 use Rattle.receiving.specs.Takes.{word_of}
@@ -118,24 +117,24 @@ module _ (r : Receiver) (store out : List ℕ) (i : ℕ) where
 
   pub record TakeOutcomes : Type 0 where
     -- nothing
-    pub waits : at r.rings.used i ≡ 0 → take_of r store out ≡ record { result = record { answer = taken.Waiting i; next = r }; out = out }
+    pub waits : at r.rings.used i ≡ 0 → take_of r store out ≡ record { result = record { answer = Ok (taken.Waiting i); next = r }; out = out }
     -- what cannot be an item
     pub no_item : Bytes store → Not (at r.rings.used i ≡ 0) → Not (ItemHead r store i)
-        → take_of r store out ≡ record { result = record { answer = taken.Refused 9; next = r }; out = out }
+        → take_of r store out ≡ record { result = record { answer = Err refusal.Store; next = r }; out = out }
     -- a packet that is longer than the output, and one that it has room for
     pub too_long : (b : List ℕ) → DataHead r store i b → length out < length b
-        → take_of r store out ≡ record { result = record { answer = taken.Refused 8; next = r }; out = out }
+        → take_of r store out ≡ record { result = record { answer = Err refusal.ShortOutput; next = r }; out = out }
     pub hands_out : (b : List ℕ) → DataHead r store i b → length b ≤ length out
-        → ((take_of r store out).result.answer ≡ taken.Data i (length b)) × ((take_of r store out).out ≡ b ++ drop (length b) out)
+        → ((take_of r store out).result.answer ≡ Ok (taken.Data i (length b))) × ((take_of r store out).out ≡ b ++ drop (length b) out)
         × Removes r next i (length b)
         × Charges q round counter (charge_of (line_plan r.plan i) (length b)) (at next.turns.rounds i) (at next.turns.counters i)
         × MovesOn r next
     -- a marker that is behind: round, rounds and counters are kept
     pub behind : (round' counter' : ℕ) (m : MarkerHead r store i round' counter') → BehindLine r i round' counter'
-        → ((take_of r store out).result.answer ≡ taken.Behind i) × ((take_of r store out).out ≡ out) × Removes r next i (length m.bytes) × (next.turns ≡ r.turns)
+        → ((take_of r store out).result.answer ≡ Ok (taken.Behind i)) × ((take_of r store out).out ≡ out) × Removes r next i (length m.bytes) × (next.turns ≡ r.turns)
     -- a marker d rounds ahead, that is not: what is missing, and the line's round and counter are its own
     pub missing : (round' counter' d : ℕ) (m : MarkerHead r store i round' counter') → Ahead round' round d → Not (BehindLine r i round' counter')
-        → ((take_of r store out).result.answer ≡ taken.Missing i (d * q + counter - counter')) × ((take_of r store out).out ≡ out)
+        → ((take_of r store out).result.answer ≡ Ok (taken.Missing i (d * q + counter - counter'))) × ((take_of r store out).out ≡ out)
         × Removes r next i (length m.bytes)
         × (at next.turns.rounds i ≡ round') × (at next.turns.counters i ≡ counter') × MovesOn r next
 
@@ -147,7 +146,7 @@ Takes =
 
 -- these bytes stand at the front of the output, the rest is as it was, and their length is answered
 pub record WritesOut (b out : List ℕ) (o : Outcome) : Type 0 where
-  pub answer : o.answer ≡ written.Length (length b)
+  pub answer : o.answer ≡ Ok (length b)
   pub output : o.out ≡ b ++ drop (length b) out
 
 -- ---- call by call
@@ -159,29 +158,31 @@ pub record Outcomes : Type 0 where
   pub reads_number : (v : ℕ) (rest : List ℕ) → v < 4294967296 → yields (reading_of 32 (coded 32 v ++ rest)) ≡ v ∷ length (coded 32 v) ∷ []
   pub reads_only : (b : List ℕ) (v n : ℕ) → Bytes b → yields (reading_of 32 b) ≡ v ∷ n ∷ [] → (v < 4294967296) × (b ≡ coded 32 v ++ drop n b)
   -- what the writers write: a number; a plan's N, Max, K and quanta; a marker's line, round and counter; and of a state its line's
-  pub writes_number : (v : ℕ) (out : List ℕ) → let o = writing.written (coded 32 v) out in written_number o.answer ≡ 0 → WritesOut (coded 32 v) out o
-  pub writes_plan : (p : Plan) (out : List ℕ) → written_number (plan_written p out).answer ≡ 0
+  pub writes_number : (v : ℕ) (out : List ℕ) → let o = writing.written (coded 32 v) out in number_of o.answer ≡ 0 → WritesOut (coded 32 v) out o
+  pub writes_plan : (p : Plan) (out : List ℕ) → number_of (plan_written p out).answer ≡ 0
       → WritesOut (coded 32 p.lines ++ coded 32 p.max ++ coded 32 p.interval ++ row_bytes (take p.lines p.quanta)) out (plan_written p out)
   pub row_of : (v : ℕ) (row : List ℕ) → (row_bytes [] ≡ []) × (row_bytes (v ∷ row) ≡ coded 32 v ++ row_bytes row)
-  pub writes_marker : (m : Marker) (out : List ℕ) → written_number (marker_written m out).answer ≡ 0
+  pub writes_marker : (m : Marker) (out : List ℕ) → number_of (marker_written m out).answer ≡ 0
       → WritesOut (coded 32 m.line ++ coded 32 m.round ++ coded 32 m.counter) out (marker_written m out)
-  pub asks : (s : Sender) (i : ℕ) (out : List ℕ) → written_number (marker_from s i out).answer ≡ 0
+  pub asks : (s : Sender) (i : ℕ) (out : List ℕ) → number_of (marker_from s i out).answer ≡ 0
       → WritesOut (coded 32 i ++ coded 32 (at s.rounds i) ++ coded 32 (at s.counters i)) out (marker_from s i out)
-  pub opens_sender : (p : Plan) → PlanIn p → length p.quanta ≡ 16 → SenderOpens p (open_sender p).sender
-  pub opens_receiver : (p : Plan) (size : ℕ) → PlanIn p → StoreIn p size → length p.quanta ≡ 16 → ReceiverOpens p size (open_receiver p size).receiver
+  pub opens_sender : (p : Plan) → PlanIn p → length p.quanta ≡ 16 → SenderOpens p (sender_of (open_sender p))
+  pub opens_receiver : (p : Plan) (size : ℕ) → PlanIn p → StoreIn p size → length p.quanta ≡ 16 → ReceiverOpens p size (receiver_of (open_receiver p size))
   -- a record reads as the plan that it spells, and a marker as the three numbers
-  pub reads_plan : (b : List ℕ) (p : Plan) → PlanSpelled b p → plan_read b ≡ record { number = 0; plan = p }
+  pub reads_plan : (b : List ℕ) (p : Plan) → PlanSpelled b p → plan_read b ≡ Ok p
   pub reads_marker : (b : List ℕ) (line round counter : ℕ) → MarkerSpelled b line round counter → line < 16 → From 1 1048576 counter
-      → marker_read b ≡ Whole (record { line = line; round = round; counter = counter })
+      → marker_read b ≡ Ok (record { line = line; round = round; counter = counter })
   -- a packet goes on the current line, by the first form of sending
   pub sends : (s : Sender) (n : ℕ) → SenderArrays s → SenderIn s → From 1 s.plan.max n
-      → ((send_of s n).answer ≡ sent.Went s.line (first_due (in_theory s.plan) (figures_of s) n))
+      → ((send_of s n).answer ≡ went_to s.line (first_due (in_theory s.plan) (figures_of s) n))
       × (figures_of (send_of s n).next ≡ first_send (in_theory s.plan) (figures_of s) n)
   -- what is stored
-  pub data_stored : (r : Receiver) (i : ℕ) (b store : List ℕ) → ReceiverArrays r → (data_arrival r i b store).arrived.number ≡ 0 → Stores r i 0 b store (data_arrival r i b store)
-  pub marker_stored : (r : Receiver) (i : ℕ) (b store : List ℕ) → ReceiverArrays r → (marker_arrival r i b store).arrived.number ≡ 0 → Stores r i 1 b store (marker_arrival r i b store)
+  pub data_stored : (r : Receiver) (i : ℕ) (b store : List ℕ) → ReceiverArrays r → number_of (data_arrival r i b store).arrived.answer ≡ 0
+      → Stores r i 0 b store (data_arrival r i b store)
+  pub marker_stored : (r : Receiver) (i : ℕ) (b store : List ℕ) → ReceiverArrays r → number_of (marker_arrival r i b store).arrived.answer ≡ 0
+      → Stores r i 1 b store (marker_arrival r i b store)
   -- a take's word in a run's log: its line, 16 times what it was (0 data, 1 missing, 2 behind), and 512 times the length or the bytes missing
   pub words : (line n : ℕ)
-      → (word_of (taken.Data line n) ≡ line + 512 * n) × (word_of (taken.Missing line n) ≡ 16 + line + 512 * n) × (word_of (taken.Behind line) ≡ 32 + line)
+      → (word_of (Ok (taken.Data line n)) ≡ line + 512 * n) × (word_of (Ok (taken.Missing line n)) ≡ 16 + line + 512 * n) × (word_of (Ok (taken.Behind line)) ≡ 32 + line)
   pub cannot_be : (r : Receiver) (store : List ℕ) (i : ℕ) → CannotBe r store i
   pub takes : Takes

@@ -8,29 +8,30 @@ use borrow.Author.Tests.{ltb-true}
 use lib.ListN.{length, take, length-append}
 use Rattle.numbers.specs.Coding.{Bytes, coded, row_bytes}
 use Rattle.numbers.specs.Checks.{check}
-use Rattle.numbers.specs.Writing.{written_number, length_of, room}
+use Rattle.std.specs.Prelude.{Ok, Err}
+use Rattle.numbers.specs.declared.Refusal.TheVariants as refusal
+use Rattle.numbers.specs.Refusals.{number_of}
+use Rattle.numbers.specs.Writing.{length_of, room}
 use Rattle.numbers.proofs.Checks.{check_passed, from_range}
 use Rattle.numbers.proofs.Laws.{coded_size, coded_size_of, accepted}
 use Rattle.plan.specs.Limits.{most_lines, most_quantum}
 use Rattle.marker.specs.declared.Marker.{Marker}
-use Rattle.marker.specs.declared.MarkerRead.{MarkerRead}
-use Rattle.marker.specs.declared.MarkerRead.TheVariants.{Whole, Refused}
-use Rattle.marker.specs.Marker.{number_of, values_of, record_read, marker_bytes, counter_ok, line_ok, judged, read_number, marker_read, marker_written}
-use Rattle.marker.proofs.Laws.{record_written, record_read_lem, record_accepted, both_good, passed, whole_not_refused}
+use Rattle.marker.specs.Marker.{MarkerRead, values_of, record_read, marker_bytes, counter_ok, line_ok, judged, read_checks, marker_read, marker_written}
+use Rattle.marker.proofs.Laws.{record_written, record_read_lem, record_accepted, both_good, comes_back, whole_not_refused}
 
 -- A marker reads back as written: whatever the writer takes, the front of the output, as long as it answered, is read as the same
 -- line, round and counter. (A round is kept modulo 2^32.)
-pub written_reads_back : (m : Marker) (out : List ℕ) → m.round < 2 ^ 32 → written_number (marker_written m out).answer ≡ 0
+pub written_reads_back : (m : Marker) (out : List ℕ) → m.round < 2 ^ 32 → number_of (marker_written m out).answer ≡ 0
     → let front = take (length_of (marker_written m out).answer) (marker_written m out).out in
     (number_of (marker_read front) ≡ 0) × (values_of (marker_read front) ≡ m.line ∷ m.round ∷ m.counter ∷ [])
 unfolding marker_written marker_read
 written_reads_back m out round e =
-    let w = accepted (check (line_ok m) 3 (check (counter_ok m) 5 (room (marker_bytes m) out))) (marker_bytes m) out e in
-    let line = check_passed (line_ok m) 3 _ (omega arith) w.0 in
-    let counter = check_passed (counter_ok m) 5 _ (omega arith) line.1 in
+    let w = accepted (check (line_ok m) refusal.Line (check (counter_ok m) refusal.NoMarker (room (marker_bytes m) out))) (marker_bytes m) out e in
+    let line = check_passed (line_ok m) _ _ w.0 in
+    let counter = check_passed (counter_ok m) _ _ line.1 in
     let l = ltb-true m.line most_lines line.0 in
     let c = from_range 1 m.counter most_quantum counter.0 in
-    let is : judged read_number (record_read (marker_bytes m)) ≡ Whole m = ap (judged read_number) (record_written m (omega arith) round (omega arith)) ∙ sym (both_good m counter.0 l) in
+    let is : judged read_checks (record_read (marker_bytes m)) ≡ Ok m = ap (judged read_checks) (record_written m (omega arith) round (omega arith)) ∙ sym (both_good m counter.0 line.0) in
     rw w.1 (ap number_of is, ap values_of is)
 
 -- Bytes that read are exactly those that would be written, of a marker that the writer takes.
@@ -39,13 +40,13 @@ pub read_is_written : (s : List ℕ) → Bytes s → number_of (marker_read s) �
 unfolding marker_read
 read_is_written s bytes e = go (record_read s) refl e
   where
-    go : (r : MarkerRead) → record_read s ≡ r → number_of (judged read_number r) ≡ 0
-        → (m : Marker) × (values_of (judged read_number (record_read s)) ≡ m.line ∷ m.round ∷ m.counter ∷ []) × (s ≡ marker_bytes m) × (line_ok m ≡ true) × (counter_ok m ≡ true) × (m.round < 2 ^ 32)
-    go (Refused k) h z = absurd (let w = record_accepted s (ap number_of h ∙ z) in whole_not_refused (sym h ∙ w.1))
-    go (Whole m) h z =
-        let p = passed m z in
+    go : (r : MarkerRead) → record_read s ≡ r → number_of (judged read_checks r) ≡ 0
+        → (m : Marker) × (values_of (judged read_checks (record_read s)) ≡ m.line ∷ m.round ∷ m.counter ∷ []) × (s ≡ marker_bytes m) × (line_ok m ≡ true) × (counter_ok m ≡ true) × (m.round < 2 ^ 32)
+    go (Err k) h z = absurd (let w = record_accepted s (ap number_of h ∙ z) in whole_not_refused (sym h ∙ w.1))
+    go (Ok m) h z =
+        let p = comes_back m z in
         let r = record_read_lem s m bytes h in
-        (m, ap values_of (ap (judged read_number) h ∙ p.0), r.0, p.2, p.1, r.2)
+        (m, ap values_of (ap (judged read_checks) h ∙ p.0), r.0, p.2, p.1, r.2)
 
 -- No marker that the writer takes is longer than nine bytes: one for the line, five for the round, three for the counter.
 pub nine_bytes : (m : Marker) → line_ok m ≡ true → counter_ok m ≡ true → m.round < 2 ^ 32 → length (marker_bytes m) ≤ 9

@@ -4,10 +4,12 @@
 #![tactic(auto)]
 
 ghost use Rattle.std.specs.Prelude.{◌≡◌};
+ghost use Rattle.numbers.specs.declared.Refusal.TheVariants as refusal;
+ghost use Rattle.numbers.specs.Checks.{passed, check};
 ghost use Rattle.numbers.specs.Writing.{written};
-ghost use Rattle.marker.specs.Marker.{marker_bytes, record_read, judge, read_number, marker_read, marker_written};
+ghost use Rattle.marker.specs.Marker.{marker_bytes, record_read, line_ok, counter_ok, judge, read_checks, marker_read, marker_written};
 
-use numbers::{Reading, Written};
+use numbers::Refusal;
 use plan::Plan;
 
 #[derive(Clone, Copy)]
@@ -17,33 +19,27 @@ pub struct Marker {
     pub counter: u32,
 }
 
-// What reading a marker answers: the marker, or the number of the refusal.
-#[derive(Clone, Copy)]
-pub enum MarkerRead {
-    Whole(Marker),
-    Refused(u32),
-}
-
 // Reads the three numbers that s is. Refused: 5.
-pub fn read_record(s: &[u8]) -> MarkerRead
+#[tactic(auto, using(numbers::proofs::Laws::number_by_number), unfolding(crate::specs::Marker::record_read))]
+pub fn read_record(s: &[u8]) -> Result<Marker, Refusal>
     ensures { result ≡ record_read s.now }
 {
-    let Reading::Number(line, a) = numbers::read_number(s) else {
-        return MarkerRead::Refused(5);
+    let Some((line, a)) = numbers::read_number(s) else {
+        return Err(Refusal::NoMarker);
     };
     let after_line = &s[a..];
-    let Reading::Number(round, b) = numbers::read_number(after_line) else {
-        return MarkerRead::Refused(5);
+    let Some((round, b)) = numbers::read_number(after_line) else {
+        return Err(Refusal::NoMarker);
     };
     let after_round = &after_line[b..];
-    let Reading::Number(counter, c) = numbers::read_number(after_round) else {
-        return MarkerRead::Refused(5);
+    let Some((counter, c)) = numbers::read_number(after_round) else {
+        return Err(Refusal::NoMarker);
     };
     let over = c < after_round.len();
     if over {
-        return MarkerRead::Refused(5);
+        return Err(Refusal::NoMarker);
     }
-    MarkerRead::Whole(Marker {
+    Ok(Marker {
         line,
         round,
         counter,
@@ -51,45 +47,57 @@ pub fn read_record(s: &[u8]) -> MarkerRead
 }
 
 // Writes a marker's three numbers to the front of out. Refused: 8.
-pub fn write_record(m: Marker, out: &mut [u8]) -> Written
+pub fn write_record(m: Marker, out: &mut [u8]) -> Result<usize, Refusal>
     ensures { (result ≡ (written (marker_bytes m) out.old).answer) × (out.new ≡ (written (marker_bytes m) out.old).out) }
 {
     let row = [m.line, m.round, m.counter];
     numbers::write_row(&row, out)
 }
 
-// A marker whose numbers hold for some plan. Refused: 5, 3.
-fn checked(m: Marker) -> MarkerRead
-    ensures { result ≡ judge (read_number m) m }
+// A line that there is in some plan. Refused: 3.
+fn check_line(m: Marker) -> Result<(), Refusal>
+    ensures { result ≡ check (line_ok m) refusal.Line passed }
+{
+    if Plan::MOST_LINES <= m.line as usize {
+        return Err(Refusal::Line);
+    }
+    Ok(())
+}
+
+// A counter of some plan. Refused: 5.
+fn check_counter(m: Marker) -> Result<(), Refusal>
+    ensures { result ≡ check (counter_ok m) refusal.NoMarker passed }
 {
     if !numbers::in_range(1, m.counter, Plan::MOST_QUANTUM) {
-        return MarkerRead::Refused(5);
+        return Err(Refusal::NoMarker);
     }
-    if Plan::MOST_LINES <= m.line as usize {
-        return MarkerRead::Refused(3);
-    }
-    MarkerRead::Whole(m)
+    Ok(())
+}
+
+// A marker whose numbers hold for some plan. Refused: 5, 3.
+#[tactic(auto, unfolding(crate::specs::Marker::judge))]
+fn checked(m: Marker) -> Result<Marker, Refusal>
+    ensures { result ≡ judge (read_checks m) m }
+{
+    check_counter(m)?;
+    check_line(m)?;
+    Ok(m)
 }
 
 // Reads the marker that s is, of whatever plan. Refused: 5, 3.
-pub fn read_marker(s: &[u8]) -> MarkerRead
+#[tactic(auto, unfolding(crate::specs::Marker::marker_read))]
+pub fn read_marker(s: &[u8]) -> Result<Marker, Refusal>
     ensures { result ≡ marker_read s.now }
 {
-    match read_record(s) {
-        MarkerRead::Whole(m) => checked(m),
-        MarkerRead::Refused(number) => MarkerRead::Refused(number),
-    }
+    checked(read_record(s)?)
 }
 
 // Writes a marker, of whatever plan, to the front of out. Refused: 3, 5, 8.
-pub fn write_marker(m: Marker, out: &mut [u8]) -> Written
+#[tactic(auto, unfolding(crate::specs::Marker::marker_written, numbers::specs::Writing::outcome))]
+pub fn write_marker(m: Marker, out: &mut [u8]) -> Result<usize, Refusal>
     ensures { (result ≡ (marker_written m out.old).answer) × (out.new ≡ (marker_written m out.old).out) }
 {
-    if Plan::MOST_LINES <= m.line as usize {
-        return Written::Refused(3);
-    }
-    if !numbers::in_range(1, m.counter, Plan::MOST_QUANTUM) {
-        return Written::Refused(5);
-    }
+    check_line(m)?;
+    check_counter(m)?;
     write_record(m, out)
 }

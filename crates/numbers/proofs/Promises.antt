@@ -5,15 +5,14 @@ use native.Mathlib.Omega.{arith}
 use mathlib.Core.List.{List, [], ◌∷◌, ◌++◌}
 use lib.ListN.{length, take}
 use lib.Seq.{take-length}
-use Rattle.numbers.specs.declared.Reading.{Reading}
-use Rattle.numbers.specs.declared.Reading.TheVariants.{Number, Nothing}
-use Rattle.numbers.specs.Coding.{Bytes, yields, reading_of, coded}
+use Rattle.numbers.specs.Coding.{Reading, Bytes, yields, reading_of, coded}
+use Rattle.std.specs.Prelude.{Some, None}
 use Rattle.numbers.proofs.Laws as law
 
 -- what a reading yields says which it is
-was : (r : Reading) {v at : ℕ} → yields r ≡ v ∷ at ∷ [] → r ≡ Number v at
-was (Number u k) {v} {at} e = let p : u ≡ v = cc in let q : k ≡ at = cc in rw (p, q)
-was Nothing e = absurd (omega (arith, ap length e))
+was : (r : Reading) {v at : ℕ} → yields r ≡ v ∷ at ∷ [] → r ≡ Some (v, at)
+was (Some (u, k)) {v} {at} e = let p : u ≡ v = cc in let q : k ≡ at = cc in rw (p, q)
+was None e = absurd (omega (arith, ap length e))
 
 -- What is written reads back, with the place after it, whatever follows.
 pub written_reads_back : (w v : ℕ) (t : List ℕ) → v < 2 ^ w → yields (reading_of w (coded w v ++ t)) ≡ v ∷ length (coded w v) ∷ []

@@ -1,3 +1,4 @@
+pub mod Refusals
 pub mod Checks
 pub mod Coding
 pub mod Writing

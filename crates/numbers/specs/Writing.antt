@@ -1,18 +1,18 @@
 -- A writer's outcome. A written record goes to the front of the output, the rest of the output stays, and its length is
 -- answered; a refusal answers its number and changes nothing.
-use Rattle.std.specs.Prelude.{ℕ, List, ◌++◌, cond, length, drop, leb, eqb}
-use Rattle.numbers.specs.declared.Written.{Written}
-use Rattle.numbers.specs.declared.Written.TheVariants.{Length, Refused}
-use Rattle.numbers.specs.Checks.{check}
+use Rattle.std.specs.Prelude.{ℕ, List, ◌++◌, length, drop, leb, Result, Ok, Err}
+use Rattle.numbers.specs.declared.Refusal.{Refusal}
+use Rattle.numbers.specs.declared.Refusal.TheVariants.{ShortOutput}
+use Rattle.numbers.specs.Checks.{Checked, passed, check, settled}
 
--- the table's number that an answer gives, 0 for none; and the length that it tells
-abbrev pub written_number : Written → ℕ
-written_number (Length n) = 0
-written_number (Refused k) = k
+-- what a writer answers: the length written, or the refusal
+abbrev pub Written : Type 0
+Written = Result ℕ Refusal
 
+-- the length that it tells
 abbrev pub length_of : Written → ℕ
-length_of (Length n) = n
-length_of (Refused k) = 0
+length_of (Ok n) = n
+length_of (Err refusal) = 0
 
 -- what a writer answers, and the output as it leaves it
 pub record Outcome : Type 0 where
@@ -20,15 +20,15 @@ pub record Outcome : Type 0 where
   pub out : List ℕ
 
 -- 8: output shorter than what is to be written; the last check of every writer
-abbrev pub room : List ℕ → List ℕ → ℕ
-room bytes out = check (leb (length bytes) (length out)) 8 0
+abbrev pub room : List ℕ → List ℕ → Checked
+room bytes out = check (leb (length bytes) (length out)) ShortOutput passed
 
--- bytes to be written to an output, once the writer's checks have given their number
-unfoldable pub outcome : ℕ → List ℕ → List ℕ → Outcome
-outcome number bytes out =
-    cond (eqb number 0)
-    (record { answer = Length (length bytes); out = bytes ++ drop (length bytes) out })
-    (record { answer = Refused number; out = out })
+-- bytes to be written to an output, once the writer's checks have been made
+unfoldable pub outcome : Checked → List ℕ → List ℕ → Outcome
+outcome row bytes out =
+    settled row
+    (record { answer = Ok (length bytes); out = bytes ++ drop (length bytes) out })
+    (λ refusal. record { answer = Err refusal; out = out })
 
 -- the outcome of a writer that has no other check
 abbrev pub written : List ℕ → List ℕ → Outcome

@@ -7,7 +7,7 @@ use mathlib.Core.Path.{◌≡◌, refl}
 use lib.Dec.{leb, eqb}
 use lib.ListN.{length, replicate, take, drop}
 use borrow.Author.Tests.{ltb-true, leb-true}
-use Rattle.numbers.specs.declared.Written.TheVariants as written
+use Rattle.std.specs.Prelude.{Ok, Err}
 use Rattle.numbers.specs.Checks.{all_below}
 use Rattle.numbers.specs.Coding.{reading_of, coded, row_bytes}
 use Rattle.numbers.specs.Writing.{outcome}
@@ -23,17 +23,15 @@ use Rattle.theory.specs.System as T
 use Rattle.theory.specs.Words.{Yielded, NoneBehind, HasMarker, to_come}
 use Rattle.theory.specs.FarEnd as F
 use Rattle.report.specs.Report.{marker_on, ahead, report_of}
-use Rattle.sending.specs.declared.Sent.TheVariants as sent
-use Rattle.sending.specs.Sender.{sender_ok, open_sender, next_sender, send_number, send_of, marker_from}
+use Rattle.sending.specs.Sender.{went_to, sender_ok, open_sender, next_sender, send_checks, send_of, marker_from}
 use Rattle.sending.specs.Sender as sender
 use Rattle.ring.specs.Ring.{from_ring, into_ring, held, stored}
 use Rattle.ring.specs.Ring as ring
 use Rattle.ring.specs.Queue.{Entry, items_in, queue}
-use Rattle.receiving.specs.declared.Taken.{Taken}
+use Rattle.receiving.specs.Taking.{TakeAnswer, head_on, item_on, round_now, take_of}
 use Rattle.receiving.specs.declared.Taken.TheVariants as taken
 use Rattle.receiving.specs.Receiver.{held_of, first_from, line_at, rings_ok, turns_ok, receiver_ok, open_receiver, ring_of, with_ring}
 use Rattle.receiving.specs.Arriving.{arrival, arrival_of}
-use Rattle.receiving.specs.Taking.{head_on, item_on, round_now, take_of}
 use Rattle.bundle.specs.Events.{packet}
 use Rattle.bundle.specs.Worlds.{World, Call, takes, landing, handed_in, reported_in}
 use Rattle.bundle.specs.Words.{Opens, NoPacketOn, bytes_of}
@@ -41,6 +39,8 @@ use Rattle.bundle.specs.Demands as D
 use Rattle.bundle.specs.Words as words
 use Rattle.paper.proofs.Tests.{Enough, enough_test, enough, plain_steps, Plain, beginning, near_test, near, of_system, on_lines, on_both, first_lowest}
 use Rattle.paper.specs.Session.{session, numbered, room, some_takes, size, bytes, opened, calm, lossy, lossier, closing}
+use Rattle.numbers.specs.declared.Refusal.TheVariants as refusal
+use Rattle.numbers.specs.Refusals.{number_of}
 
 -- ---- the words of the demands, of the session; and how they follow from what computes
 
@@ -65,7 +65,7 @@ nearly h = near_test theirs T.at_opening (plain_steps h)
 
 -- of `Reports`: after h line 0 has the lowest round, and a marker in front; a take answers that 500 bytes are missing there, where nothing was reported
 -- before
-abbrev answer_in : World → Taken
+abbrev answer_in : World → TakeAnswer
 answer_in w = (take_of w.receiver w.store room).result.answer
 
 -- a marker in front, by its label and its position
@@ -77,11 +77,11 @@ front_of (T.marker k m ∷ rest) = k ∷ m ∷ []
 abbrev Finds : List Call → Type 0
 Finds h =
     Near (h ++ (takes room ∷ [])) × Lowest theirs (T.positions (system h)) 0 × (front_of ((system h).line 0).store ≡ 5 ∷ 1200 ∷ [])
-    × (answer_in (after h) ≡ taken.Missing 0 500) × (reported_in 0 opened h ≡ 0)
+    × (answer_in (after h) ≡ Ok (taken.Missing 0 500)) × (reported_in 0 opened h ≡ 0)
 
 finds : (h : List Call) → Plain opened (h ++ (takes room ∷ [])) → nearly (h ++ (takes room ∷ [])) ≡ true
     → leb (S.rounds theirs (T.positions (state h)) 0) (S.rounds theirs (T.positions (state h)) 1) ≡ true → front_of ((state h).line 0).store ≡ 5 ∷ 1200 ∷ []
-    → answer_in (after h) ≡ taken.Missing 0 500 → reported_in 0 opened h ≡ 0 → Finds h
+    → answer_in (after h) ≡ Ok (taken.Missing 0 500) → reported_in 0 opened h ≡ 0 → Finds h
 finds h plain passed low mark answer first =
     let before : Plain opened h = beginning h (takes room ∷ []) opened plain in (
       near session size bytes (h ++ (takes room ∷ [])) plain passed,
@@ -152,7 +152,7 @@ pub nothing_lost :
     × (handed_in opened (calm ++ some_takes 6)
     ≡ numbered 1 400 ∷ numbered 2 500 ∷ numbered 3 300 ∷ numbered 4 450 ∷ numbered 5 200 ∷ numbered 6 500 ∷ numbered 7 500 ∷ numbered 8 100 ∷ [])
 unfolding all_below reading_of coded row_bytes outcome plan_ok store_ok charge_of record_read better best choose charged T.at_line
-    marker_on judge ahead report_of sender_ok counters_ok open_sender next_sender send_number send_of marker_from from_ring into_ring held stored ring.front_of
+    marker_on judge ahead report_of sender_ok counters_ok open_sender next_sender send_checks send_of marker_from from_ring into_ring held stored ring.front_of
     first_from line_at receiver_ok rings_ok turns_ok open_receiver ring_of with_ring arrival arrival_of head_on item_on round_now take_of items_in queue
 nothing_lost =
     let plain : Plain opened (calm ++ some_takes 6) = refl in (
@@ -167,7 +167,7 @@ nothing_lost =
 -- packet 8 is to come.
 pub packet_lost : Near (lossy ++ some_takes 5) × Finds (take 18 lossy) × Orders (lossy ++ some_takes 4) (some_takes 1) both_marked (numbered 8 100 ∷ [])
 unfolding all_below reading_of coded row_bytes outcome plan_ok store_ok charge_of record_read better best choose charged T.at_line marker_on
-    judge ahead report_of sender_ok counters_ok open_sender next_sender send_number send_of marker_from from_ring into_ring held stored ring.front_of first_from
+    judge ahead report_of sender_ok counters_ok open_sender next_sender send_checks send_of marker_from from_ring into_ring held stored ring.front_of first_from
     line_at receiver_ok rings_ok turns_ok open_receiver ring_of with_ring arrival arrival_of head_on item_on round_now take_of S.carried
 packet_lost =
     let plain : Plain opened (lossy ++ some_takes 5) = refl in (
@@ -182,7 +182,7 @@ pub marker_lost :
     × Orders (take 19 lossier) (drop 19 lossier ++ some_takes 4) first_marked
     (numbered 4 450 ∷ numbered 5 200 ∷ numbered 6 500 ∷ numbered 7 500 ∷ numbered 8 100 ∷ [])
 unfolding all_below reading_of coded row_bytes outcome plan_ok store_ok charge_of record_read better best choose charged T.at_line
-    marker_on judge ahead report_of sender_ok counters_ok open_sender next_sender send_number send_of marker_from from_ring into_ring held stored ring.front_of
+    marker_on judge ahead report_of sender_ok counters_ok open_sender next_sender send_checks send_of marker_from from_ring into_ring held stored ring.front_of
     first_from line_at receiver_ok rings_ok turns_ok open_receiver ring_of with_ring arrival arrival_of head_on item_on round_now take_of S.carried
 marker_lost =
     let plain : Plain opened (lossier ++ some_takes 4) = refl in (
@@ -196,7 +196,7 @@ marker_lost =
 pub all_marked :
     Clears (lossy ++ closing) (replicate 7 room) ((1 ∷ []) ∷ [] ∷ []) × Clears (lossier ++ closing) (replicate 6 room) ((1 ∷ []) ∷ [] ∷ [])
 unfolding all_below reading_of coded row_bytes outcome plan_ok store_ok charge_of record_read better best choose charged T.at_line marker_on
-    judge ahead report_of sender_ok counters_ok open_sender next_sender send_number send_of marker_from from_ring into_ring held stored ring.front_of first_from
+    judge ahead report_of sender_ok counters_ok open_sender next_sender send_checks send_of marker_from from_ring into_ring held stored ring.front_of first_from
     line_at receiver_ok rings_ok turns_ok open_receiver ring_of with_ring arrival arrival_of head_on item_on round_now take_of items_in queue
 all_marked = (
   clears (lossy ++ closing) (replicate 7 room) _ refl (inl refl) (inr (inl refl)) refl refl refl,
@@ -207,7 +207,7 @@ all_marked = (
 pub round_ends :
     (1 ≤ length (numbered 5 200)) × (length (numbered 5 200) ≤ session.max)
     × (ends theirs (D.carried session size bytes (take 8 calm)) (length (numbered 5 200)) ≡ true)
-unfolding all_below plan_ok store_ok charge_of better best choose charged S.carried ends ahead sender_ok counters_ok open_sender next_sender send_number send_of
+unfolding all_below plan_ok store_ok charge_of better best choose charged S.carried ends ahead sender_ok counters_ok open_sender next_sender send_checks send_of
     stored into_ring first_from line_at receiver_ok rings_ok turns_ok open_receiver ring_of with_ring arrival arrival_of
 round_ends = (leb-true _ _ refl, leb-true _ _ refl, refl)
 
@@ -217,7 +217,7 @@ pub room_enough :
     × (((after (take 1 calm)).road 0 ≡ packet (numbered 1 400) ∷ [])
     × (item_head + length (bytes_of (packet (numbered 1 400))) ≤ size - (held_of (after (take 1 calm)).receiver.rings 0).used))
     × (session.max ≤ length room)
-unfolding all_below coded row_bytes plan_ok store_ok charge_of sender_ok counters_ok open_sender next_sender send_number send_of open_receiver
+unfolding all_below coded row_bytes plan_ok store_ok charge_of sender_ok counters_ok open_sender next_sender send_checks send_of open_receiver
 room_enough = (
   leb-true _ _ refl,
   (refl, leb-true _ _ refl),
@@ -231,9 +231,9 @@ unfolding all_below plan_ok store_ok ahead sender_ok counters_ok open_sender fir
 valid_opened = (refl, refl)
 
 pub some_refused :
-    ((send_of opened.sender 0).answer ≡ sent.Refused 4) × ((marker_from opened.sender 0 []).answer ≡ written.Refused 8)
-    × ((landing opened.receiver bytes 2 (packet (numbered 1 400))).arrived.number ≡ 3)
-    × ((take_of (after (take 2 calm)).receiver (after (take 2 calm)).store []).result.answer ≡ taken.Refused 8)
-unfolding all_below coded row_bytes outcome plan_ok store_ok charge_of ahead sender_ok counters_ok open_sender send_number send_of marker_from from_ring
+    ((send_of opened.sender 0).answer ≡ Err refusal.Length) × ((marker_from opened.sender 0 []).answer ≡ Err refusal.ShortOutput)
+    × (number_of (landing opened.receiver bytes 2 (packet (numbered 1 400))).arrived.answer ≡ 3)
+    × ((take_of (after (take 2 calm)).receiver (after (take 2 calm)).store []).result.answer ≡ Err refusal.ShortOutput)
+unfolding all_below coded row_bytes outcome plan_ok store_ok charge_of ahead sender_ok counters_ok open_sender send_checks send_of marker_from from_ring
     into_ring held stored ring.front_of first_from line_at receiver_ok rings_ok turns_ok open_receiver ring_of with_ring arrival arrival_of head_on item_on take_of
 some_refused = (refl, refl, refl, refl)

@@ -7,11 +7,10 @@ use mathlib.Core.Path.{◌≡◌, refl, sym, ap, ◌∙◌, subst}
 use lib.Dec.{ltb, leb, eqb}
 use lib.ListN.{length, get_or, take, drop}
 use borrow.Author.Tests.{ltb-true, leb-true, eq-eqb, lt-ltb, le-leb}
-use Rattle.numbers.specs.declared.Written.{Written}
-use Rattle.numbers.specs.declared.Written.TheVariants as written
+use Rattle.numbers.specs.Writing.{Written, outcome}
+use Rattle.std.specs.Prelude.{Ok, Err}
 use Rattle.numbers.specs.Checks.{all_below}
 use Rattle.numbers.specs.Coding.{reading_of, coded, row_bytes}
-use Rattle.numbers.specs.Writing.{outcome}
 use Rattle.numbers.specs.Writing as writing
 use Rattle.numbers.proofs.Checks.{never}
 use Rattle.plan.specs.declared.Plan.{Plan}
@@ -26,19 +25,16 @@ use Rattle.theory.specs.Words.{Beginning, total, before, Yielded, NoneBehind, to
 use Rattle.theory.specs.FarEnd as F
 use Rattle.report.specs.Report.{marker_on, ahead, report_of}
 use Rattle.sending.specs.declared.Sender.{Sender}
-use Rattle.sending.specs.declared.Sent.{Sent}
-use Rattle.sending.specs.declared.Sent.TheVariants as sent
-use Rattle.sending.specs.Sender.{sender_ok, open_sender, next_sender, send_number, send_of, marker_from}
+use Rattle.sending.specs.Sender.{Sent, went_to, sender_ok, open_sender, next_sender, send_checks, send_of, marker_from}
 use Rattle.sending.specs.Sender as sender
 use Rattle.ring.specs.Ring.{from_ring, into_ring, held, stored, front_of}
 use Rattle.ring.specs.Queue.{items_in}
 use Rattle.ring.specs.Queue as ring
-use Rattle.receiving.specs.declared.Taken.{Taken}
+use Rattle.receiving.specs.Taking.{TakeAnswer, taken_number, taken_values, head_on, item_on, round_now, take_of}
 use Rattle.receiving.specs.declared.Taken.TheVariants as taken
 use Rattle.receiving.specs.Receiver.{held_of, first_from, line_at, rings_ok, turns_ok, receiver_ok, open_receiver, ring_of, with_ring}
 use Rattle.receiving.specs.Receiver as receiver
 use Rattle.receiving.specs.Arriving.{arrival, arrival_of}
-use Rattle.receiving.specs.Taking.{taken_number, taken_values, head_on, item_on, round_now, take_of}
 use Rattle.bundle.specs.Events.{Parcel}
 use Rattle.bundle.specs.Events as event
 use Rattle.bundle.specs.Worlds.{World, Call, sends, takes, landing, handed_in, reported_in}
@@ -46,6 +42,9 @@ use Rattle.bundle.specs.Words.{and_then, Names, queue_at, NoPacket}
 use Rattle.bundle.specs.Log.{parcel_of, entry_of}
 use Rattle.bundle.specs.Demands as D
 use Rattle.paper.specs.Session.{session, numbered, room, size, bytes, opened, calm, lossy, closing}
+use Rattle.numbers.specs.Refusals.{number_of}
+use Rattle.numbers.specs.declared.Refusal.{Refusal}
+use Rattle.numbers.specs.declared.Refusal.TheVariants as refusal
 
 -- ---- a test that fails refutes what it tests
 
@@ -107,32 +106,32 @@ passed = take 19 lossy
 -- `Rule`, of what packet 5 is answered
 abbrev RuleOf : Sent → Type 0
 RuleOf answer =
-    (i : ℕ) × Lowest theirs (carried four) i × (answer ≡ sent.Went i (due_after theirs (T.sizes (sent_of five)) (length (sent_of four))))
+    (i : ℕ) × Lowest theirs (carried four) i × (answer ≡ went_to i (due_after theirs (T.sizes (sent_of five)) (length (sent_of four))))
 
 -- `SameRule`, of what the take that finds the marker is answered
-abbrev SameRuleOf : Taken → Type 0
+abbrev SameRuleOf : TakeAnswer → Type 0
 SameRuleOf answer = (i : ℕ) × Lowest theirs (T.positions (system marked)) i × Names i answer
 
 -- `Reports`, of what that take is answered: the marker in front is labelled 5
-abbrev ReportsOf : Taken → Type 0
-ReportsOf answer = (m : ℕ) × (answer ≡ taken.Missing 0 m) × (m + reported_in 0 opened marked ≡ total (before theirs 0 5) ((system marked).line 0).lost)
+abbrev ReportsOf : TakeAnswer → Type 0
+ReportsOf answer = (m : ℕ) × (answer ≡ Ok (taken.Missing 0 m)) × (m + reported_in 0 opened marked ≡ total (before theirs 0 5) ((system marked).line 0).lost)
 
 -- `Answered`, of what a take into an output of no bytes is answered, packet 1 in front, and of one with room
-abbrev TooLongOf : Taken → Type 0
-TooLongOf answer = answer ≡ taken.Refused 8
+abbrev TooLongOf : TakeAnswer → Type 0
+TooLongOf answer = answer ≡ Err refusal.ShortOutput
 
-abbrev PacketOf : Taken → List ℕ → Type 0
-PacketOf answer out = (answer ≡ taken.Data 0 400) × (out ≡ numbered 1 400 ++ drop 400 room)
+abbrev PacketOf : TakeAnswer → List ℕ → Type 0
+PacketOf answer out = (answer ≡ Ok (taken.Data 0 400)) × (out ≡ numbered 1 400 ++ drop 400 room)
 
 -- `OnlyForCause`, of what an arrival of packet 1 is answered, of a marker asked for on line 0, and of a take with room
 abbrev LandOf : ℕ → Type 0
 LandOf number = number ≡ 0
 
 abbrev AskOf : Written → Type 0
-AskOf answer = answer ≡ written.Length (length (sender.line_marker (after five).sender 0))
+AskOf answer = answer ≡ Ok (length (sender.line_marker (after five).sender 0))
 
-abbrev TakeOf : Taken → Type 0
-TakeOf answer = (k : ℕ) → answer ≡ taken.Refused k → ⊥
+abbrev TakeOf : TakeAnswer → Type 0
+TakeOf answer = (refusal : Refusal) → answer ≡ Err refusal → ⊥
 
 -- `RefusedChangesNothing`, of the state that a refused send leaves, and of the output that a refused take does
 abbrev SendLeaves : Sender → Type 0
@@ -166,7 +165,7 @@ pub record Concluded : Type 0 where
       → let t = take_of (after (take 2 calm)).receiver (after (take 2 calm)).store room in PacketOf t.result.answer t.out
   pub land : D.OnlyForCause session size bytes → (rest : List Parcel) → (after (take 1 calm)).road 0 ≡ event.packet (numbered 1 400) ∷ rest
       → item_head + 400 ≤ size - (held_of (after (take 1 calm)).receiver.rings 0).used
-      → LandOf (landing (after (take 1 calm)).receiver (after (take 1 calm)).store 0 (event.packet (numbered 1 400))).arrived.number
+      → LandOf (number_of (landing (after (take 1 calm)).receiver (after (take 1 calm)).store 0 (event.packet (numbered 1 400))).arrived.answer)
   pub ask : D.OnlyForCause session size bytes → length (sender.line_marker (after five).sender 0) ≤ length room → AskOf (marker_from (after five).sender 0 room).answer
   pub take : D.OnlyForCause session size bytes → D.Near session size bytes passed
       → TakeOf (take_of (after marked).receiver (after marked).store room).result.answer
@@ -198,17 +197,17 @@ pub record Wrong : Type 0 where
   -- `ChargedBytes`: a byte more
   pub charged_more : theirs.charge 0 400 + 1 ≡ 400 → ⊥
   -- `Rule`: the other line; no marker due; a refusal
-  pub rule_other : RuleOf (sent.Went 0 true) → ⊥
-  pub rule_undue : RuleOf (sent.Went 1 false) → ⊥
-  pub rule_refused : RuleOf (sent.Refused 4) → ⊥
+  pub rule_other : RuleOf (went_to 0 true) → ⊥
+  pub rule_undue : RuleOf (went_to 1 false) → ⊥
+  pub rule_refused : RuleOf (Err refusal.Length) → ⊥
   -- `Share`: a round more than has ended; nothing above the quanta
   pub share_more : (rounds_ended five + 1) * quantum session 0 ≤ carried five 0 → ⊥
   pub share_less : carried five 0 < rounds_ended five * quantum session 0 → ⊥
   -- `SameRule`: the other line waits, or hands out; the marker is behind; a refusal
-  pub same_rule_waits : SameRuleOf (taken.Waiting 1) → ⊥
-  pub same_rule_other : SameRuleOf (taken.Data 1 450) → ⊥
-  pub same_rule_behind : SameRuleOf (taken.Behind 0) → ⊥
-  pub same_rule_refused : SameRuleOf (taken.Refused 9) → ⊥
+  pub same_rule_waits : SameRuleOf (Ok (taken.Waiting 1)) → ⊥
+  pub same_rule_other : SameRuleOf (Ok (taken.Data 1 450)) → ⊥
+  pub same_rule_behind : SameRuleOf (Ok (taken.Behind 0)) → ⊥
+  pub same_rule_refused : SameRuleOf (Err refusal.Store) → ⊥
   -- `InOrder`: two packets swapped; one left out
   pub in_order_swapped : Beginning (numbered 2 500 ∷ numbered 1 400 ∷ []) (sent_of calm) → ⊥
   pub in_order_gap : Beginning (numbered 1 400 ∷ numbered 3 300 ∷ []) (sent_of calm) → ⊥
@@ -216,15 +215,15 @@ pub record Wrong : Type 0 where
   pub all_out_waits : handed_in opened calm ≡ sent_of calm → ⊥
   pub all_out_twice : sent_of calm ++ (numbered 8 100 ∷ []) ≡ sent_of calm → ⊥
   -- `Reports`: nothing; a byte too many; a marker that is waited for, or told as behind
-  pub reports_nothing : ReportsOf (taken.Missing 0 0) → ⊥
-  pub reports_more : ReportsOf (taken.Missing 0 501) → ⊥
-  pub reports_waits : ReportsOf (taken.Waiting 0) → ⊥
-  pub reports_behind : ReportsOf (taken.Behind 0) → ⊥
+  pub reports_nothing : ReportsOf (Ok (taken.Missing 0 0)) → ⊥
+  pub reports_more : ReportsOf (Ok (taken.Missing 0 501)) → ⊥
+  pub reports_waits : ReportsOf (Ok (taken.Waiting 0)) → ⊥
+  pub reports_behind : ReportsOf (Ok (taken.Behind 0)) → ⊥
   -- `Answered`: a packet that waits where it is too long, or is refused with 9; one that is refused where there is room, or cut short
-  pub too_long_waits : TooLongOf (taken.Waiting 0) → ⊥
-  pub too_long_nine : TooLongOf (taken.Refused 9) → ⊥
-  pub packet_refused : PacketOf (taken.Refused 8) room → ⊥
-  pub packet_cut : PacketOf (taken.Data 0 399) (numbered 1 399 ++ drop 399 room) → ⊥
+  pub too_long_waits : TooLongOf (Ok (taken.Waiting 0)) → ⊥
+  pub too_long_nine : TooLongOf (Err refusal.Store) → ⊥
+  pub packet_refused : PacketOf (Err refusal.ShortOutput) room → ⊥
+  pub packet_cut : PacketOf (Ok (taken.Data 0 399)) (numbered 1 399 ++ drop 399 room) → ⊥
   -- `Order`: two packets swapped; one left out
   pub order_swapped : OrderOf (numbered 5 200 ∷ numbered 4 450 ∷ []) → ⊥
   pub order_gap : OrderOf (numbered 4 450 ∷ numbered 6 500 ∷ []) → ⊥
@@ -234,32 +233,32 @@ pub record Wrong : Type 0 where
   pub valid_sender : sender_ok sender.closed_sender ≡ true → ⊥
   pub valid_receiver : receiver_ok receiver.closed_receiver ≡ true → ⊥
   -- `OnlyForCause`: a marker refused, or cut short; a packet not stored; a take refused
-  pub ask_refused : AskOf (written.Refused 8) → ⊥
-  pub ask_short : AskOf (written.Length 3) → ⊥
+  pub ask_refused : AskOf (Err refusal.ShortOutput) → ⊥
+  pub ask_short : AskOf (Ok 3) → ⊥
   pub land_refused : LandOf 7 → ⊥
-  pub take_refused : TakeOf (taken.Refused 8) → ⊥
+  pub take_refused : TakeOf (Err refusal.ShortOutput) → ⊥
   -- `RefusedChangesNothing`: a refused send that charges its line; a refused take that writes over its output
   pub refused_charges : SendLeaves (next_sender opened.sender 100) → ⊥
   pub refused_writes : TakeLeaves (numbered 1 500) → ⊥
 
 -- a report of m bytes is no report of n
-reported : {m n : ℕ} → taken.Missing 0 m ≡ taken.Missing 0 n → m ≡ n
-reported e = ap (λ (t : Taken). get_or (taken_values t) 1 0) e
+reported : {m n : ℕ} → ◌≡◌ {A = TakeAnswer} (Ok (taken.Missing 0 m)) (Ok (taken.Missing 0 n)) → m ≡ n
+reported e = ap (λ (t : TakeAnswer). get_or (taken_values t) 1 0) e
 
-not_reported : (m : ℕ) → eqb (m + reported_in 0 opened marked) (total (before theirs 0 5) ((system marked).line 0).lost) ≡ false → ReportsOf (taken.Missing 0 m) → ⊥
+not_reported : (m : ℕ) → eqb (m + reported_in 0 opened marked) (total (before theirs 0 5) ((system marked).line 0).lost) ≡ false → ReportsOf (Ok (taken.Missing 0 m)) → ⊥
 not_reported m test r = differ _ _ test (ap (λ (n : ℕ). n + reported_in 0 opened marked) (reported r.1) ∙ r.2)
 
 -- an answer by what it is: data, missing, behind, waiting, refused
-abbrev kind_of : Taken → ℕ
-kind_of (taken.Data i n) = 0
-kind_of (taken.Missing i m) = 1
-kind_of (taken.Behind i) = 2
-kind_of (taken.Waiting i) = 3
-kind_of (taken.Refused k) = 4
+abbrev kind_of : TakeAnswer → ℕ
+kind_of (Ok (taken.Data i n)) = 0
+kind_of (Ok (taken.Missing i m)) = 1
+kind_of (Ok (taken.Behind i)) = 2
+kind_of (Ok (taken.Waiting i)) = 3
+kind_of (Err k) = 4
 
 pub wrong : Wrong
 unfolding all_below reading_of coded row_bytes outcome plan_ok store_ok charge_of record_read better best choose charged S.carried ends ended
-    due_after T.at_line marker_on judge ahead report_of sender_ok counters_ok open_sender next_sender send_number send_of marker_from from_ring into_ring held stored
+    due_after T.at_line marker_on judge ahead report_of sender_ok counters_ok open_sender next_sender send_checks send_of marker_from from_ring into_ring held stored
     front_of items_in ring.queue first_from line_at receiver_ok rings_ok turns_ok open_receiver ring_of with_ring arrival arrival_of head_on item_on
     round_now take_of
 wrong =
@@ -274,7 +273,7 @@ wrong =
           let line : r.0 ≡ 0 = sym (ap (λ (s : Sent). get_or (sender.sent_values s) 0 0) r.2) in
           above _ _ refl ((subst (Lowest theirs (carried four)) line r.1).lowest 1 (omega arith));
       rule_undue = λ r. differ _ _ refl (ap (λ (s : Sent). get_or (sender.sent_values s) 1 0) r.2);
-      rule_refused = λ r. differ _ _ refl (ap sender.sent_number r.2);
+      rule_refused = λ r. differ _ _ refl (ap number_of r.2);
       share_more = above _ _ refl;
       share_less = not_below _ _ refl;
       same_rule_waits = λ r. other (subst (Lowest theirs (T.positions (system marked))) r.2 r.1);
@@ -292,16 +291,16 @@ wrong =
       too_long_waits = λ e. differ 3 4 refl (ap kind_of e);
       too_long_nine = λ e. differ 9 8 refl (ap taken_number e);
       packet_refused = λ r. differ 4 0 refl (ap kind_of r.0);
-      packet_cut = λ r. differ 399 400 refl (ap (λ (t : Taken). get_or (taken_values t) 1 0) r.0);
+      packet_cut = λ r. differ 399 400 refl (ap (λ (t : TakeAnswer). get_or (taken_values t) 1 0) r.0);
       order_swapped = λ b. differ _ _ refl (ap (named 0) b.1);
       order_gap = λ b. differ _ _ refl (ap (named 1) b.1);
       cleared_waits = λ c. c.0 refl;
       valid_sender = λ e. never (sym e);
       valid_receiver = λ e. never (sym e);
-      ask_refused = λ e. differ 8 0 refl (ap writing.written_number e);
+      ask_refused = λ e. differ 8 0 refl (ap number_of e);
       ask_short = λ e. differ _ _ refl (ap writing.length_of e);
       land_refused = differ 7 0 refl;
-      take_refused = λ none. none 8 refl;
+      take_refused = λ none. none refusal.ShortOutput refl;
       refused_charges = λ e. differ _ _ refl (ap (λ (s : Sender). at s.counters 0) e);
       refused_writes = λ e. differ _ _ refl (ap (λ (out : List ℕ). get_or out 0 0) e);
     }

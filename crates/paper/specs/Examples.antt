@@ -7,16 +7,16 @@ use Rattle.marker.specs.Marker.{marker_of}
 use Rattle.report.specs.Report.{report_number, report_values, ahead, report_of}
 use Rattle.plan.specs.Plan.{at}
 use Rattle.sending.specs.declared.Sender.{Sender}
-use Rattle.sending.specs.declared.Sent.{Sent}
-use Rattle.sending.specs.Sender.{sent_number, sent_values, open_sender, send_of, line_marker}
+use Rattle.sending.specs.Sender.{Sent, sent_values, open_sender, send_of, line_marker, sender_of}
 use Rattle.bundle.specs.Events.{Event, each}
 use Rattle.bundle.specs.Events as event
 use Rattle.bundle.specs.Worlds.{World, Call, arrives, calls, events, handed_in}
 use Rattle.paper.specs.Session.{numbered, some_takes, opened, first_five, lossy}
+use Rattle.numbers.specs.Refusals.{number_of}
 
 -- a row of the table: the number that a send gives, its line and whether markers are due (1 or 0), and round and counter before it on its line
 abbrev pub row_of : Sender → Sent → List ℕ
-row_of s answer = let line = get_or (sent_values answer) 0 0 in sent_number answer ∷ sent_values answer ++ (at s.rounds line ∷ at s.counters line ∷ [])
+row_of s answer = let line = get_or (sent_values answer) 0 0 in number_of answer ∷ sent_values answer ++ (at s.rounds line ∷ at s.counters line ∷ [])
 
 abbrev pub rows : Sender → List ℕ → List (List ℕ)
 rows s [] = []
@@ -44,7 +44,7 @@ abbrev pub equal : Plan
 equal = record { lines = 2; max = 500; interval = 1; quanta = 500 ∷ 500 ∷ replicate 14 0 }
 
 abbrev pub line_and_counter : ℕ → List ℕ
-line_and_counter size = let s = (send_of (open_sender equal).sender size).next in s.line ∷ at s.counters 0 ∷ []
+line_and_counter size = let s = (send_of (sender_of (open_sender equal)) size).next in s.line ∷ at s.counters 0 ∷ []
 
 -- what a marker tells a line of quantum 1000 at a round and a counter: the number, and the bytes missing
 abbrev pub told : ℕ → ℕ → Marker → List ℕ

@@ -1,18 +1,20 @@
 -- The laws of a plan that keeps to its ranges. Callers cite these and not the definitions' text.
 -- Assumes nothing.
-use mathlib.Core.Path.{◌≡◌, ◌∙◌}
+use mathlib.Core.Path.{◌≡◌, ◌∙◌, refl, sym}
 use Prim.Native.Nat.{ℕ, ◌-◌, ◌≤◌, ◌<◌}
 use native.Mathlib.Omega.{arith}
-use mathlib.Core.Bool.{true, false}
+use mathlib.Core.Bool.{Bool, true, false}
 use mathlib.Core.List.{List}
-use lib.ListN.{length, take, get_or, replicate, length-append, length-replicate, get_or-replicate, get_or-append}
+use lib.ListN.{length, take, get_or, get_or-eq_default, replicate, length-append, length-replicate, get_or-replicate, get_or-append}
 use lib.Seq.{length-take-le, get_or-take}
+use Rattle.std.specs.Array.{AllOfLen}
+use Rattle.std.proofs.lemmas.Grind.{same_number_lists}
 use Rattle.numbers.specs.Checks.{in_range, all_below}
 use Rattle.numbers.proofs.Checks.{both, in_range_lem as is_in_range, from_range, all_at, all}
 use Rattle.plan.specs.declared.Plan.{Plan}
 use Rattle.plan.specs.declared.LinePlan.{LinePlan}
 use Rattle.plan.specs.Limits.{least_lines, most_lines, least_max, most_max, most_quantum, least_interval, most_interval}
-use Rattle.plan.specs.Plan.{at, quantum, line_plan, charge_of, quantum_ok, plan_ok, counter_ok, counters_ok, first_entries, trimmed}
+use Rattle.plan.specs.Plan.{at, quantum, line_plan, charge_of, quantum_ok, plan_ok, counter_ok, counters_ok, zeros, no_plan, first_entries, trimmed}
 
 -- ---- a plan in range
 
@@ -45,6 +47,10 @@ in_range_lem p e =
       quantum_least = λ i h. (from_range p.max (quantum p i) most_quantum (all_at (quantum_ok p) p.lines a.1 i h)).0;
       quantum_most = λ i h. (from_range p.max (quantum p i) most_quantum (all_at (quantum_ok p) p.lines a.1 i h)).1;
     }
+
+-- it has sixteen lines at most
+pub few_lines : (p : Plan) → plan_ok p ≡ true → p.lines ≤ most_lines
+few_lines p good = (in_range_lem p good).few_lines
 
 -- a line's plan in range
 pub record LineInRange (l : LinePlan) : Type 0 where
@@ -97,26 +103,13 @@ unfolding counters_ok
 are_counters p counters each =
     all (counter_ok p counters) p.lines (λ i h. is_in_range 1 (at counters i) (quantum p i) (each i h).0 (each i h).1)
 
--- ---- the check of a plan, test by test
-
-module _ (p : Plan) where
-  pub lines_bad : in_range least_lines p.lines most_lines ≡ false → false ≡ plan_ok p
-  unfolding plan_ok
-  lines_bad e = simp e
-
-  module _ (lines : in_range least_lines p.lines most_lines ≡ true) where
-    pub max_bad : in_range least_max p.max most_max ≡ false → false ≡ plan_ok p
-    unfolding plan_ok
-    max_bad e = simp (lines, e)
-
-    module _ (max : in_range least_max p.max most_max ≡ true) where
-      pub interval_bad : in_range least_interval p.interval most_interval ≡ false → false ≡ plan_ok p
-      unfolding plan_ok
-      interval_bad e = simp (lines, max, e)
-
-      pub quanta_left : in_range least_interval p.interval most_interval ≡ true → all_below (quantum_ok p) p.lines ≡ plan_ok p
-      unfolding plan_ok
-      quanta_left e = simp (lines, max, e)
+-- the line behind the last entry has no counter
+pub counters_many : (p : Plan) (counters : List ℕ) → length counters < p.lines → counters_ok p counters ≡ false
+counters_many p counters many = go (counters_ok p counters) refl
+  where
+    go : (t : Bool) → counters_ok p counters ≡ t → counters_ok p counters ≡ false
+    go false e = e
+    go true e = absurd (omega (arith, counters_in p counters e (length counters) many, get_or-eq_default counters 0 {n = length counters} (omega arith)))
 
 -- ---- entries from line N on do not matter
 
@@ -153,3 +146,20 @@ trimmed_ok p good sixteen =
       all (quantum_ok (trimmed p)) p.lines
           (λ i h. rw (trimmed_quantum p good sixteen i h) (is_in_range p.max (quantum p i) most_quantum (r.quantum_least i h) (r.quantum_most i h))),
     )
+
+-- ---- zeros
+
+-- sixteen of them
+pub are_zeros : (l : List ℕ) → AllOfLen (λ x. x ≡ 0) l most_lines → l ≡ zeros
+are_zeros l all_of = same_number_lists l zeros all_of.long (λ i inside. all_of.at i 0 (omega arith) ∙ sym (get_or-replicate most_lines i 0 0 (omega arith)))
+
+-- a plan from its parts
+made : ℕ → ℕ → ℕ → List ℕ → Plan
+made lines max interval quanta = record { lines = lines; max = max; interval = interval; quanta = quanta }
+
+-- one that has zeros alone
+pub all_zeros : (p : Plan) → (p.lines ≡ 0) × (p.max ≡ 0) × (p.interval ≡ 0) → AllOfLen (λ x. x ≡ 0) p.quanta most_lines → p ≡ no_plan
+unfolding made
+all_zeros p none quanta =
+    let made_of : made p.lines p.max p.interval p.quanta ≡ made 0 0 0 zeros = rw (none.0, none.1, none.2, are_zeros p.quanta quanta) in
+    made_of

@@ -9,7 +9,7 @@ ghost use Rattle.plan.specs.Plan.{at, no_plan, quantum_ok, plan_ok, store_ok, co
 
 // Lines are numbered from 0 in the order of the quanta, never by name. Entries for lines from `lines` on are ignored and kept.
 #[repr(C)]
-#[derive(Clone, Copy)]
+#[derive(Clone, Copy, Default)]
 pub struct Plan {
     pub lines: u32,
     pub max: u32,
@@ -61,65 +61,58 @@ fn limits()
     ensures most_store { Plan.MOST_STORE ≡ most_store }
 {}
 
-// No early way out of the loop: a plan is checked at every call, and nearly always good.
+// No early way out of the loop, as `all` has, here and in `counters_ok`: a plan is checked at every call, and nearly always good.
+// Both take the quanta out of the plan first, which is quicker than going over them in it.
+#[tactic(auto, using(numbers::proofs::Checks::all_more), unfolding(numbers::specs::Checks::all_below))]
 fn quanta_ok(p: Plan) -> bool
     requires { p.lines ≤ most_lines }
     ensures { result ≡ all_below (quantum_ok p) p.lines }
 {
-    let quanta = p.quanta;
-    let n = p.lines as usize;
+    let Plan {
+        lines,
+        max,
+        quanta,
+        ..
+    } = p;
     let mut good = true;
-    let mut i: usize = 0;
-    while i < n {
-        let fits = numbers::in_range(p.max, quanta[i], Plan::MOST_QUANTUM);
-        good = good & fits;
-        i += 1;
+    for q in &quanta[..lines as usize] {
+        good &= numbers::in_range(max, *q, Plan::MOST_QUANTUM);
     }
     good
 }
 
 // Whether a plan keeps to the table of ranges.
+#[tactic(auto, using(numbers::proofs::Checks::from_range), unfolding(crate::specs::Plan::plan_ok))]
 pub fn plan_ok(p: Plan) -> bool
     ensures { result ≡ plan_ok p }
 {
-    if !numbers::in_range(Plan::LEAST_LINES, p.lines, Plan::MOST_LINES as u32) {
-        return false;
-    }
-    if !numbers::in_range(Plan::LEAST_MAX, p.max, Plan::MOST_MAX) {
-        return false;
-    }
-    if !numbers::in_range(Plan::LEAST_INTERVAL, p.interval, Plan::MOST_INTERVAL) {
-        return false;
-    }
-    quanta_ok(p)
+    numbers::in_range(Plan::LEAST_LINES, p.lines, Plan::MOST_LINES as u32)
+        && numbers::in_range(Plan::LEAST_MAX, p.max, Plan::MOST_MAX)
+        && numbers::in_range(Plan::LEAST_INTERVAL, p.interval, Plan::MOST_INTERVAL)
+        && quanta_ok(p)
 }
 
 // Whether `size` bytes a line keep to the table of ranges for a plan.
+#[tactic(auto, using(numbers::proofs::Checks::empty_range), unfolding(crate::specs::Plan::store_ok))]
 pub fn store_ok(p: Plan, size: u32) -> bool
     ensures { result ≡ store_ok p size }
 {
-    let max = p.max;
-    if Plan::MOST_STORE < max {
-        return false;
-    }
-    numbers::in_range(max + Plan::ITEM_HEAD, size, Plan::MOST_STORE)
+    p.max <= Plan::MOST_STORE && numbers::in_range(p.max + Plan::ITEM_HEAD, size, Plan::MOST_STORE)
 }
 
 // Whether each of the plan's lines has a counter of 1 to its quantum.
+#[tactic(auto, using(crate::proofs::Laws::counters_many), unfolding(crate::specs::Plan::counters_ok, numbers::specs::Checks::all_below))]
 pub fn counters_ok(p: Plan, counters: [u32; Plan::MOST_LINES]) -> bool
     ensures { result ≡ counters_ok p counters }
 {
-    let quanta = p.quanta;
-    let n = p.lines as usize;
+    let Plan { lines, quanta, .. } = p;
+    let n = lines as usize;
     if Plan::MOST_LINES < n {
         return false;
     }
     let mut good = true;
-    let mut i: usize = 0;
-    while i < n {
-        let fits = numbers::in_range(1, counters[i], quanta[i]);
-        good = good & fits;
-        i += 1;
+    for (c, q) in counters[..n].iter().zip(&quanta[..n]) {
+        good &= numbers::in_range(1, *c, *q);
     }
     good
 }
@@ -128,25 +121,21 @@ pub fn counters_ok(p: Plan, counters: [u32; Plan::MOST_LINES]) -> bool
 pub fn entry(entries: [u32; Plan::MOST_LINES], i: u32) -> u32
     ensures { result ≡ at entries i }
 {
-    if Plan::MOST_LINES <= i as usize {
-        return 0;
-    }
-    entries[i as usize]
+    entries.get(i as usize).copied().unwrap_or(0)
 }
 
 // A line's plan.
 pub fn line_plan(p: Plan, line: u32) -> LinePlan
     ensures { result ≡ line_plan p line }
 {
-    let quanta = p.quanta;
-    let quantum = entry(quanta, line);
     LinePlan {
-        quantum,
+        quantum: entry(p.quanta, line),
         largest: p.max,
     }
 }
 
 // What a packet of that length is charged on a line.
+#[tactic(auto, unfolding(crate::specs::Plan::charge_of))]
 pub fn charge(l: LinePlan, length: u32) -> u32
     ensures { result ≡ charge_of l length }
 {
@@ -154,15 +143,11 @@ pub fn charge(l: LinePlan, length: u32) -> u32
 }
 
 // The plan of zeros, on which nothing opens.
+#[tactic(auto, using(crate::proofs::Laws::all_zeros))]
 pub fn no_plan() -> Plan
     ensures { result ≡ no_plan }
 {
-    Plan {
-        lines: 0,
-        max: 0,
-        interval: 0,
-        quanta: [0; Plan::MOST_LINES],
-    }
+    Plan::default()
 }
 
 // The first n of a line's entries, and zeros from there on.
@@ -170,11 +155,7 @@ pub fn first_entries(n: usize, entries: [u32; Plan::MOST_LINES]) -> [u32; Plan::
     ensures { result ≡ first_entries n entries }
 {
     let mut kept = entries;
-    let mut i = n;
-    while i < Plan::MOST_LINES {
-        kept[i] = 0;
-        i += 1;
-    }
+    kept[n.min(Plan::MOST_LINES)..].fill(0);
     kept
 }
 
@@ -182,12 +163,8 @@ pub fn first_entries(n: usize, entries: [u32; Plan::MOST_LINES]) -> [u32; Plan::
 pub fn trim(p: Plan) -> Plan
     ensures { result ≡ trimmed p }
 {
-    let quanta = p.quanta;
-    let kept = first_entries(p.lines as usize, quanta);
     Plan {
-        lines: p.lines,
-        max: p.max,
-        interval: p.interval,
-        quanta: kept,
+        quanta: first_entries(p.lines as usize, p.quanta),
+        ..p
     }
 }

@@ -8,20 +8,23 @@ use mathlib.Core.List.{List, [], ◌∷◌, ◌++◌}
 use lib.ListN.{length, take, get_or, replicate, length-append}
 use lib.Seq.{take_at, length-take-le}
 use Rattle.numbers.specs.Checks.{check, in_range}
-use Rattle.numbers.specs.Writing.{written_number, length_of, room}
+use Rattle.numbers.specs.Writing.{length_of, room}
+use Rattle.numbers.specs.Refusals.{number_of}
+use Rattle.numbers.specs.declared.Refusal.TheVariants as refusal
+use Rattle.std.specs.Prelude.{Ok}
 use Rattle.numbers.specs.Coding.{Bytes, coded, row_bytes, reading_of}
 use Rattle.numbers.proofs.Checks.{check_passed, in_range_lem as is_in_range, from_range, all}
 use Rattle.numbers.proofs.Laws.{coded_size_of, accepted}
 use Rattle.plan.specs.declared.Plan.{Plan}
 use Rattle.plan.specs.Limits.{least_lines, most_lines, least_max, most_max, most_quantum, least_interval, most_interval}
 use Rattle.plan.specs.Plan.{quantum, quantum_ok, plan_ok, trimmed}
-use Rattle.plan_record.specs.Record.{bare, read_plan, refused_plan, within, quanta_read, plan_read, plan_bytes, plan_written}
+use Rattle.plan_record.specs.Record.{bare, refused_plan, within, quanta_read, plan_read, plan_bytes, plan_written}
 use Rattle.plan.proofs.Laws.{in_range_lem}
 use Rattle.plan.proofs.Promises.{session}
 use Rattle.plan_record.proofs.Records.{field_written, field_read, with_quanta, AllFit, quanta_written, quanta_read_lem, onward_settled, quanta_settled, laid, fit_take, fit_at}
 
 -- the record of a plan in range
-record_reads : (p : Plan) → plan_ok p ≡ true → length p.quanta ≡ most_lines → plan_read (plan_bytes p) ≡ read_plan (trimmed p)
+record_reads : (p : Plan) → plan_ok p ≡ true → length p.quanta ≡ most_lines → plan_read (plan_bytes p) ≡ Ok (trimmed p)
 unfolding plan_read row_bytes
 record_reads p good sixteen =
     let r = in_range_lem p good in
@@ -35,16 +38,16 @@ record_reads p good sixteen =
     ∙ field_written least_interval most_interval (omega arith) p.interval _ _ (is_in_range least_interval p.interval most_interval r.interval_least r.interval_most)
     ∙ ap (λ (n : ℕ). quanta_read n 0 (bare p.lines p.max p.interval) (row_bytes row)) (sym count)
     ∙ quanta_written row 0 (bare p.lines p.max p.interval) fit
-    ∙ ap (λ (q : List ℕ). read_plan (with_quanta p q)) (laid most_lines row (omega (arith, r.few_lines)) ∙ ap (λ (n : ℕ). row ++ replicate (most_lines - n) 0) count)
+    ∙ ap (λ (q : List ℕ). Ok (with_quanta p q)) (laid most_lines row (omega (arith, r.few_lines)) ∙ ap (λ (n : ℕ). row ++ replicate (most_lines - n) 0) count)
 
 -- A plan in range, written and read, is the plan with zeros from line N on: whatever the writer takes, the front of the output, as
 -- long as it answered, is read so. (A plan's quanta are an array of sixteen.)
-pub written_reads_back : (p : Plan) (out : List ℕ) → length p.quanta ≡ most_lines → written_number (plan_written p out).answer ≡ 0
-    → (plan_ok p ≡ true) × (plan_read (take (length_of (plan_written p out).answer) (plan_written p out).out) ≡ read_plan (trimmed p))
+pub written_reads_back : (p : Plan) (out : List ℕ) → length p.quanta ≡ most_lines → number_of (plan_written p out).answer ≡ 0
+    → (plan_ok p ≡ true) × (plan_read (take (length_of (plan_written p out).answer) (plan_written p out).out) ≡ Ok (trimmed p))
 unfolding plan_written
 written_reads_back p out sixteen e =
-    let w = accepted (check (plan_ok p) 1 (room (plan_bytes p) out)) (plan_bytes p) out e in
-    let good = (check_passed (plan_ok p) 1 _ (omega arith) w.0).0 in
+    let w = accepted (check (plan_ok p) refusal.Plan (room (plan_bytes p) out)) (plan_bytes p) out e in
+    let good = (check_passed (plan_ok p) _ _ w.0).0 in
     (good, rw w.1 (record_reads p good sixteen))
 
 -- the plan of three numbers and a row of quanta, zeros behind it
@@ -69,7 +72,7 @@ module _ (n max interval : ℕ) (row : List ℕ) (count : length row ≡ n) wher
       ap (with_quanta planned) (ap (λ (t : List ℕ). t ++ replicate (most_lines - n) 0) first_are ∙ ap (λ (k : ℕ). row ++ replicate (most_lines - k) 0) (sym count))
 
 -- A record that reads is the one that would be written, of a plan that is in range and has zeros from line N on.
-pub read_is_written : (s : List ℕ) (p : Plan) → Bytes s → plan_read s ≡ read_plan p → (s ≡ plan_bytes p) × (plan_ok p ≡ true) × (trimmed p ≡ p)
+pub read_is_written : (s : List ℕ) (p : Plan) → Bytes s → plan_read s ≡ Ok p → (s ≡ plan_bytes p) × (plan_ok p ≡ true) × (trimmed p ≡ p)
 unfolding plan_read row_bytes
 read_is_written s p bytes e =
     let n = field_read least_lines most_lines s _ p bytes e in
@@ -86,7 +89,7 @@ read_is_written s p bytes e =
     )
 
 -- Any bytes read, or are refused with number 1 and an all-zero plan.
-pub read_or_refused : (s : List ℕ) → ((plan_read s).number ≡ 0) ⊎ (plan_read s ≡ refused_plan)
+pub read_or_refused : (s : List ℕ) → (number_of (plan_read s) ≡ 0) ⊎ (plan_read s ≡ refused_plan)
 unfolding plan_read
 read_or_refused s =
     onward_settled (within least_lines most_lines (reading_of 32 s)) s _ (λ n s₁.
@@ -125,6 +128,6 @@ fifty_four_bytes p good =
 abbrev pub session_record : List ℕ
 session_record = 0x02 ∷ 0xF4 ∷ 0x03 ∷ 0x01 ∷ 0xE8 ∷ 0x07 ∷ 0xF4 ∷ 0x03 ∷ []
 
-pub examples : (plan_bytes session ≡ session_record) × (plan_read session_record ≡ read_plan session)
+pub examples : (plan_bytes session ≡ session_record) × (plan_read session_record ≡ Ok session)
 unfolding row_bytes coded plan_read quanta_read reading_of
 examples = (refl, refl)

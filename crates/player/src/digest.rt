@@ -1,47 +1,34 @@
 // A digest of a row of numbers: each in turn is added to the digest so far, times a constant, modulo a prime above 2^32. So one figure or one
 // byte that is another always makes another digest.
-use plan::Plan;
+use std::fmt;
 
 // The largest prime below 2^40.
 const PRIME: u64 = 1_099_511_627_689;
 
 const TIMES: u64 = 65_599;
 
-fn mixed(so_far: u64, word: u64) -> u64 {
-    (so_far % PRIME * TIMES + word % PRIME + 1) % PRIME
-}
+#[derive(Clone, Copy)]
+pub struct Digest(u64);
 
-pub(crate) fn with(so_far: u64, figure: u32) -> u64 {
-    mixed(so_far, figure as u64)
-}
-
-// One figure of every line.
-pub(crate) fn row(so_far: u64, figures: [u32; Plan::MOST_LINES]) -> u64 {
-    let mut digest = so_far;
-    let mut i: usize = 0;
-    while i < Plan::MOST_LINES {
-        digest = with(digest, figures[i]);
-        i += 1;
+impl Digest {
+    pub(crate) fn of<T: Copy + Into<u64>>(numbers: &[T]) -> Digest {
+        Digest(0).with(numbers)
     }
-    digest
+
+    fn with_number(self, number: u64) -> Digest {
+        Digest((self.0 % PRIME * TIMES + number % PRIME + 1) % PRIME)
+    }
+
+    pub(crate) fn with<T: Copy + Into<u64>>(self, numbers: &[T]) -> Digest {
+        numbers
+            .iter()
+            .fold(self, |digest, &number| digest.with_number(number.into()))
+    }
 }
 
-pub(crate) fn bytes(all: &[u8]) -> u64 {
-    let mut digest: u64 = 0;
-    let mut i: usize = 0;
-    while i < all.len() {
-        digest = mixed(digest, all[i] as u64);
-        i += 1;
+// Forty bits, as ten digits.
+impl fmt::Display for Digest {
+    fn fmt<W: fmt::Write>(&self, f: &mut fmt::Formatter<W>) -> fmt::Result {
+        write!(f, "{:010x}", self.0)
     }
-    digest
-}
-
-pub(crate) fn words(all: &[u64]) -> u64 {
-    let mut digest: u64 = 0;
-    let mut i: usize = 0;
-    while i < all.len() {
-        digest = mixed(digest, all[i]);
-        i += 1;
-    }
-    digest
 }

@@ -10,30 +10,29 @@ mod text;
 
 ghost use Rattle.std.specs.Prelude.{◌≤◌, length, IfOk};
 
+use calls::Ends;
 use std::io;
 use std::io::{Read, Write};
-
-const MOST_STORE: usize = 5_000;
+use step::{Call, Step};
 
 // An input of so many bytes may have been cut.
 const TOO_LONG: usize = 65_536;
 
 // All steps of the input; before them both ends are opened on no record. Answers whether it was a recording to its end.
-fn play<W: Write>(printer: &mut W, input: &[u8], store: &mut [u8]) -> io::Result<bool> {
-    text::say_kind(printer, 0)?;
-    let mut ends = calls::open_record(printer, b"", 0, 0)?;
-    calls::say_left(printer, ends, store)?;
-    let mut at: usize = 0;
+fn play<W: Write>(printer: &mut W, input: &[u8]) -> io::Result<bool> {
+    let mut ends = Ends::closed();
+    let call = Call::OpenOnRecord {
+        record: b"",
+        size: 0,
+    };
+    ends.play(printer, &Step { kind: 0, call })?;
+    let mut at = 0;
+    // Where a step ends is known when it has been read, so there is nothing for a `for` to go over.
     while at < input.len() {
-        let st = step::step_at(input, at);
-        let from = st.from;
-        let end = st.end;
-        if end <= at {
+        let Some((step, end)) = step::step_at(input, at) else {
             return Ok(false);
-        }
-        let next = calls::play(printer, ends, st, &input[from..end], store)?;
-        ends = next;
-        calls::say_left(printer, ends, store)?;
+        };
+        ends.play(printer, &step)?;
         at = end;
     }
     Ok(at < TOO_LONG)
@@ -43,25 +42,23 @@ fn play<W: Write>(printer: &mut W, input: &[u8], store: &mut [u8]) -> io::Result
 fn read_full<R: Read>(input: &mut R, buffer: &mut [u8]) -> io::Result<usize>
     ensures { IfOk result (λ n. n ≤ length buffer.new) }
 {
-    let mut done: usize = 0;
+    let mut done = 0;
+    // A read brings as many bytes as it likes, so there is nothing for a `for` to go over.
     while done < buffer.len() {
-        let n = input.read(&mut buffer[done..])?;
-        if n == 0 {
-            break;
+        match input.read(&mut buffer[done..])? {
+            0 => break,
+            n => done += n,
         }
-        done += n;
     }
     Ok(done)
 }
 
-// The store holds 9s at first.
 fn main(rt: HostRuntime) -> io::Result<()> {
-    let mut input = [0u8; TOO_LONG];
+    let mut input = [0; TOO_LONG];
     let n = read_full(&mut rt.stdin(), &mut input)?;
-    let mut store = [9u8; MOST_STORE];
     let mut printer = rt.stdout();
-    if !play(&mut printer, &input[..n], &mut store)? {
-        text::say(&mut printer, b"bad input\n")?;
+    if !play(&mut printer, &input[..n])? {
+        writeln!(printer, "bad input")?;
     }
     Ok(())
 }

@@ -1,87 +1,131 @@
-// A step of a recording: its kind, three numbers, and a row of bytes with its length in front. Numbers that a kind has no use for are 0. A size
-// above what there is stands for all there is.
-//
-//      0  S . .                  both ends open on the plan record that the bytes are
-//      1  S . .                  both ends open on the plan that the sender holds
-//      2  length . .             a packet is sent
-//      3  line room .            a marker is asked for, into so many bytes of the output
-//      4  . room .               the sender's plan is written, into so many
-//      5  row line value         a figure of the sender's state is set (figures.rt has the rows)
-//      6  line number length     data arrives, whose bytes follow from its number
-//      7  line . .               the bytes arrive as a marker
-//      8  room . .               a take, into so many bytes of the output
-//      9  room words .           a run of takes, with a log of so many words
-//     10  row line value         a figure of the receiver's state is set
-//     11  place value .          a byte of the store is set
-//     12  length . .             so many bytes of the store are lent from here on
-ghost use Rattle.std.specs.Prelude.{◌≤◌, length};
+// A step of a recording: its kind, three numbers, and a row of bytes with its length in front. Numbers that a kind has no use for are 0.
+ghost use Rattle.std.specs.Prelude.{◌≤◌, ◌<◌, length, IfSome};
 
-use numbers::Reading;
+use crate::figures::Figure;
 
-const LAST_KIND: u32 = 12;
-
-// Its bytes stand from a place of the input to another, which is the place after the step.
+// What a step asks for. A size above what there is stands for all there is.
 #[derive(Clone, Copy)]
-pub struct Step {
+pub enum Call<'a> {
+    // Both ends open on a plan's record.
+    OpenOnRecord {
+        record: &'a [u8],
+        size: u32,
+    },
+    // Both ends open on the plan that the sender holds.
+    OpenOnPlan {
+        size: u32,
+    },
+    // A packet is sent.
+    Send {
+        length: usize,
+    },
+    // A marker is asked for, into so many bytes of the output.
+    WriteMarker {
+        line: u32,
+        room: usize,
+    },
+    // The sender's plan is written, into so many.
+    WritePlan {
+        room: usize,
+    },
+    // A figure of the sender's state is set.
+    SetSender(Figure),
+    // Data arrives, whose bytes follow from its number (calls.rt has the rule).
+    DataArrives {
+        line: u32,
+        number: u32,
+        length: usize,
+    },
+    // The bytes arrive as a marker.
+    MarkerArrives {
+        line: u32,
+        marker: &'a [u8],
+    },
+    // A take, into so many bytes of the output.
+    Take {
+        room: usize,
+    },
+    // A run of takes, with a log of so many words.
+    TakeRun {
+        room: usize,
+        words: usize,
+    },
+    // A figure of the receiver's state is set.
+    SetReceiver(Figure),
+    // A byte of the store is set.
+    SetStore {
+        place: usize,
+        value: u8,
+    },
+    // So many bytes of the store are lent from here on.
+    Lend {
+        length: usize,
+    },
+}
+
+// The number of its kind, which is printed as it was read, and what it asks for.
+#[derive(Clone, Copy)]
+pub struct Step<'a> {
     pub kind: u32,
-    pub a: u32,
-    pub b: u32,
-    pub c: u32,
-    pub from: usize,
-    pub end: usize,
+    pub call: Call<'a>,
 }
 
-// No step ends at 0.
-fn none() -> Step
-    ensures { (result.from ≤ 0) × (result.end ≤ 0) }
-{
-    Step {
-        kind: 0,
-        a: 0,
-        b: 0,
-        c: 0,
-        from: 0,
-        end: 0,
-    }
+// The call of a kind, where there is one.
+fn call_of(kind: u32, a: u32, b: u32, c: u32, bytes: &[u8]) -> Option<Call<'_>> {
+    let figure = Figure {
+        row: a,
+        line: b as usize,
+        value: c,
+    };
+    Some(match kind {
+        0 => Call::OpenOnRecord {
+            record: bytes,
+            size: a,
+        },
+        1 => Call::OpenOnPlan { size: a },
+        2 => Call::Send { length: a as usize },
+        3 => Call::WriteMarker {
+            line: a,
+            room: b as usize,
+        },
+        4 => Call::WritePlan { room: b as usize },
+        5 => Call::SetSender(figure),
+        6 => Call::DataArrives {
+            line: a,
+            number: b,
+            length: c as usize,
+        },
+        7 => Call::MarkerArrives {
+            line: a,
+            marker: bytes,
+        },
+        8 => Call::Take { room: a as usize },
+        9 => Call::TakeRun {
+            room: a as usize,
+            words: b as usize,
+        },
+        10 => Call::SetReceiver(figure),
+        11 => Call::SetStore {
+            place: a as usize,
+            value: (b % 256) as u8,
+        },
+        12 => Call::Lend { length: a as usize },
+        _ => return None,
+    })
 }
 
-// A step's bytes, with their length at a place of the input, behind all else that it has.
-fn with_bytes(st: Step, input: &[u8], at: usize) -> Step
-    ensures { (result.from ≤ result.end) × (result.end ≤ length input.now) }
+// The step at a place of the input, and the place after it.
+#[tactic(auto, using(recording::proofs::Laws::part_within))]
+pub(crate) fn step_at(input: &[u8], at: usize) -> Option<(Step<'_>, usize)>
+    ensures onward { IfSome result (λ r. at < r.1) }
+    ensures within { IfSome result (λ r. r.1 ≤ length input.now) }
 {
-    let part = recording::part_at(input, at);
-    let mut whole = st;
-    whole.from = part.from;
-    whole.end = part.end;
-    whole
-}
-
-// The step at a place of the input.
-pub(crate) fn step_at(input: &[u8], at: usize) -> Step
-    ensures { (result.from ≤ result.end) × (result.end ≤ length input.now) }
-{
-    let Reading::Number(kind, after_kind) = recording::number_at(input, at) else {
-        return none();
-    };
-    let Reading::Number(a, after_a) = recording::number_at(input, after_kind) else {
-        return none();
-    };
-    let Reading::Number(b, after_b) = recording::number_at(input, after_a) else {
-        return none();
-    };
-    let Reading::Number(c, after_c) = recording::number_at(input, after_b) else {
-        return none();
-    };
-    if LAST_KIND < kind {
-        return none();
-    }
-    let st = Step {
-        kind,
-        a,
-        b,
-        c,
-        from: 0,
-        end: 0,
-    };
-    with_bytes(st, input, after_c)
+    let (kind, after) = recording::number_at(input, at)?;
+    let (a, after) = recording::number_at(input, after)?;
+    let (b, after) = recording::number_at(input, after)?;
+    let (c, after) = recording::number_at(input, after)?;
+    let bytes = recording::part_at(input, after)?;
+    let end = bytes.end;
+    let call = call_of(kind, a, b, c, &input[bytes])?;
+    Some((Step { kind, call }, end))
 }

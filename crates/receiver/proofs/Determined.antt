@@ -10,6 +10,8 @@ use Rattle.receiver.proofs.open.Reads as opening
 use Rattle.receiver.proofs.open.Kinds as opening-kinds
 use Rattle.receiver.proofs.rings_bytes.Reads as rings-bytes
 use Rattle.receiver.proofs.rings_bytes.Kinds as rings-bytes-kinds
+use Rattle.receiver.proofs.lent.Reads as lent
+use Rattle.receiver.proofs.lent.Kinds as lent-kinds
 use Rattle.receiver.proofs.data_arrives.Reads as data_arrives
 use Rattle.receiver.proofs.data_arrives.Kinds as data-arrives-kinds
 use Rattle.receiver.proofs.marker_arrives.Reads as marker_arrives
@@ -29,6 +31,9 @@ open_tight κs a z z' e e' p q = only p q
 
 pub rings_bytes_tight : OneAnswer 0 rings-bytes-kinds.ps rings-bytes-kinds.r rings-bytes.Post
 rings_bytes_tight κs a z z' e e' p q = only p q
+
+pub lent_tight : OneAnswer 0 lent-kinds.ps lent-kinds.r lent.Post
+lent_tight κs a z z' e e' p q = only p q
 
 pub data_arrives_tight : OneOutcome 2 data-arrives-kinds.ps data-arrives-kinds.r data_arrives.Post (λ κs e. e.1.1.1.0.now)
 data_arrives_tight κs a z z' e e' p q = (only p.0 q.0, only p.1 q.1)

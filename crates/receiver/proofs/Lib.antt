@@ -1,2 +1,1 @@
-mod FirstChecks
 mod Determined

@@ -1,34 +1,35 @@
 -- The laws of arrivals: an item that is stored once its ring has come back, and each arrival check by check. Assumes nothing.
 use mathlib.Core.Path.{◌≡◌, refl, ap, sym, ◌∙◌}
-use Prim.Native.Nat.{ℕ, ◌+◌, ◌-◌, ◌*◌, ◌≤◌, ◌<◌}
+use Prim.Native.Nat.{ℕ, ◌+◌, ◌*◌, ◌≤◌, ◌<◌}
 use native.Mathlib.Omega.{arith}
 use mathlib.Core.Bool.{Bool, true, false, cond}
 use mathlib.Core.List.{List}
-use lib.Dec.{ltb, eqb}
-use lib.ListN.{length}
-use borrow.Author.Tests.{eqb-true, eqb-false, leb-true, le-leb, lt-leb, lt-ltb, le-ltb, eq-eqb, ne_eqb}
-use Rattle.numbers.specs.Checks.{check, in_range}
-use Rattle.numbers.proofs.Checks.{check_passed, from_range}
-use Rattle.plan.specs.Limits.{most_store, item_head}
+use lib.Dec.{ltb}
+use lib.ListN.{length, set}
+use lib.Seq.{set-get_or}
+use borrow.Author.Tests.{le-leb, lt-ltb}
+use Rattle.numbers.specs.Checks.{in_range, Checked, passed, checked}
+use Rattle.numbers.proofs.Checks.{check_passed, from_range, by_checks, no_zero, own_passed}
+use Rattle.plan.specs.Limits.{item_head}
 use Rattle.plan.specs.Plan.{quantum}
 use Rattle.marker.specs.declared.Marker.{Marker}
-use Rattle.marker.specs.declared.MarkerRead.{MarkerRead}
-use Rattle.marker.specs.declared.MarkerRead.TheVariants.{Whole, Refused}
-use Rattle.marker.specs.Marker.{number_of}
+use Rattle.marker.specs.Marker.{MarkerRead}
+use Rattle.std.specs.Prelude.{Ok, Err}
 use Rattle.report.specs.Report.{marker_on}
-use Rattle.report.proofs.Laws.{some_number}
 use Rattle.ring.specs.Ring.{room_for, stored as filled_ring}
 use Rattle.receiving.specs.declared.Receiver.{Receiver}
 use Rattle.receiving.specs.declared.Arrived.{Arrived}
-use Rattle.receiving.specs.Receiver.{with_held, receiver_ok, store_fits, ring_of, with_ring}
-use Rattle.receiving.specs.Arriving.{Arrival, place_of, with_item, with_stored, not_stored, arrival, arrival_number, room_number, arrival_of, data_number, data_arrival, marker_number, marker_arrival}
+use Rattle.receiving.specs.Receiver.{receiver_ok, store_fits, ring_of, with_ring}
+use Rattle.receiving.specs.Arriving.{Arrival, place_of, not_stored, arrival, arrival_checks, room_check, arrival_of, data_check, data_arrival, marker_check, marker_arrival}
 use Rattle.receiving.proofs.Stores.{Place, lent, back, lent_is, back_is, back_same}
+use Rattle.numbers.specs.Refusals.{number_of}
+use Rattle.numbers.specs.declared.Refusal.TheVariants as refusal
 
 -- ---- an item to be stored, once its ring has come back
 
 module _ (r : Receiver) (i kind : ℕ) (b store : List ℕ) (here : Place r store i) (start : ℕ) (starts : start ≡ i * r.rings.size) where
   abbrev answer : Arrival
-  answer = arrival (room_number r i b) r i kind b store
+  answer = arrival (room_check r i b) r i kind b store
 
   abbrev size : ℕ
   size = r.rings.size
@@ -51,21 +52,17 @@ module _ (r : Receiver) (i kind : ℕ) (b store : List ℕ) (here : Place r stor
     ring_is : (t : Bool) → ok ≡ t → ring ≡ cond t (filled before) before
     ring_is t e = told.1 ∙ ap (λ (t : Bool). cond t (filled before) before) e
 
-    pub no_room : ok ≡ false → (not_stored r 7 ≡ answer.arrived) × (back size store start ring ≡ answer.store)
+    pub no_room : ok ≡ false → (not_stored r refusal.NoRoom ≡ answer.arrived) × (back size store start ring ≡ answer.store)
     unfolding arrival
     no_room e =
         let none = room_is false e in
-        (simp none, ap (back size store start) (ring_is false e) ∙ back_same size store start i starts ∙ simp none)
-
-    -- an item that has room ends within its ring
-    pub item_ends : ok ≡ true → used + item_head + length b ≤ most_store
-    item_ends e = omega (arith, here.size_most, leb-true (item_head + length b) (size - used) (room_is true e))
+        (rw none refl, ap (back size store start) (ring_is false e) ∙ back_same size store start i starts ∙ rw none refl)
 
     -- line i now holds n bytes
     abbrev pub holding : ℕ → Arrived
     holding n = record {
-      number = 0;
-      next = record { plan = r.plan; rings = with_held r.rings i (record { head = (place_of r i).head; used = n }); turns = r.turns };
+      answer = passed;
+      next = record { plan = r.plan; rings = record { size = size; heads = r.rings.heads; used = set r.rings.used i n }; turns = r.turns };
     }
 
     pub is_stored : ok ≡ true → (holding (used + item_head + length b) ≡ answer.arrived) × (back size store start ring ≡ answer.store)
@@ -74,101 +71,44 @@ module _ (r : Receiver) (i kind : ℕ) (b store : List ℕ) (here : Place r stor
         let some = room_is true e in
         let sum : used + item_head + length b ≡ used + (item_head + length b) = omega arith in
         let same : ring ≡ filled (ring_of size store i) = ring_is true e ∙ ap filled (lent_is size store start i starts) in
-        (ap holding sum ∙ simp some, back_is size store start i starts ring ∙ ap (with_ring size store i) same ∙ simp some)
+        (ap holding sum ∙ rw (some, set-get_or r.rings.heads i 0) refl, back_is size store start i starts ring ∙ ap (with_ring size store i) same ∙ rw some refl)
 
--- ---- an arrival, check by check, whatever number its own kind of item gives
-
-module _ (own : ℕ) (r : Receiver) (i kind : ℕ) (b store : List ℕ) where
-  abbrev answered : Arrival
-  answered = arrival_of own r i kind b store
-
-  -- refused by a number, and no byte is changed
-  abbrev Refuses : ℕ → Type 0
-  Refuses number = (not_stored r number ≡ answered.arrived) × (store ≡ answered.store)
-
-  pub state_refused : receiver_ok r ≡ false → Refuses 2
-  unfolding arrival_of arrival
-  state_refused e = (simp e, simp e)
-
-  module _ (good : receiver_ok r ≡ true) where
-    pub store_refused : (length store ≡ r.plan.lines * r.rings.size → ⊥) → Refuses 9
-    unfolding arrival_of arrival
-    store_refused h = let e = ne_eqb (length store) (r.plan.lines * r.rings.size) h in (simp (good, e), simp (good, e))
-
-    module _ (fits : store_fits r store ≡ true) where
-      pub line_refused : r.plan.lines ≤ i → Refuses 3
-      unfolding arrival_of arrival
-      line_refused h = let e = le-ltb i r.plan.lines h in (simp (good, fits, e), simp (good, fits, e))
-
-      module _ (line : i < r.plan.lines) where
-        pub own_refused : (number : ℕ) → own ≡ number → (number ≡ 0 → ⊥) → Refuses number
-        unfolding arrival_of arrival
-        own_refused number is some =
-            let l = lt-ltb i r.plan.lines line in
-            let e = ne_eqb number 0 some in
-            (simp (good, fits, l, is, e), simp (good, fits, l, is, e))
-
-        pub stored : own ≡ 0 → arrival (room_number r i b) r i kind b store ≡ answered
-        unfolding arrival_of
-        stored is = simp (good, fits, lt-ltb i r.plan.lines line, eq-eqb own 0 is)
-
--- ---- the numbers of data and of a marker
-
-module _ (r : Receiver) (b : List ℕ) where
-  pub no_bytes : length b < 1 → data_number r b ≡ 4
-  no_bytes h = simp (lt-leb 1 (length b) h)
-
-  module _ (some : 1 ≤ length b) where
-    pub too_long : r.plan.max < length b → data_number r b ≡ 4
-    too_long h = simp (le-leb 1 (length b) some, lt-leb (length b) r.plan.max h)
-
-    pub data_good : length b ≤ r.plan.max → data_number r b ≡ 0
-    data_good h = simp (le-leb 1 (length b) some, le-leb (length b) r.plan.max h)
+-- ---- an arrival that passes its checks, up to that of room
 
 module _ (r : Receiver) (i : ℕ) (b store : List ℕ) (good : receiver_ok r ≡ true) (fits : store_fits r store ≡ true) (line : i < r.plan.lines) where
-  pub data_stored : 1 ≤ length b → length b ≤ r.plan.max → arrival (room_number r i b) r i 0 b store ≡ data_arrival r i b store
-  data_stored some most = stored (data_number r b) r i 0 b store good fits line (data_good r b some most)
+  -- whatever its own kind of item gives
+  stored : (own : Checked) (kind : ℕ) → own ≡ passed → arrival (room_check r i b) r i kind b store ≡ arrival_of own r i kind b store
+  unfolding arrival_of
+  stored own kind is = rw (good, fits, lt-ltb i r.plan.lines line, is) refl
 
-  pub marker_refused : (k : ℕ) → marker_on i (quantum r.plan i) b ≡ Refused k
-      → (not_stored r k ≡ (marker_arrival r i b store).arrived) × (store ≡ (marker_arrival r i b store).store)
-  marker_refused k e =
-      own_refused (marker_number r i b) r i 1 b store good fits line k (ap number_of e) (some_number i (quantum r.plan i) b k e)
+  pub data_stored : 1 ≤ length b → length b ≤ r.plan.max → arrival (room_check r i b) r i 0 b store ≡ data_arrival r i b store
+  data_stored some most = stored (data_check r b) 0 (simp (le-leb 1 (length b) some, le-leb (length b) r.plan.max most))
 
-  pub marker_stored : (m : Marker) → marker_on i (quantum r.plan i) b ≡ Whole m → arrival (room_number r i b) r i 1 b store ≡ marker_arrival r i b store
-  marker_stored m e = stored (marker_number r i b) r i 1 b store good fits line (ap number_of e)
+  pub marker_stored : (m : Marker) → marker_on i (quantum r.plan i) b ≡ Ok m → arrival (room_check r i b) r i 1 b store ≡ marker_arrival r i b store
+  marker_stored m e = stored (marker_check r i b) 1 (ap checked e)
 
 -- ---- an arrival that is accepted has passed the checks of its own kind
 
 module _ (r : Receiver) (i kind : ℕ) (b store : List ℕ) where
-  own_zero : (own : ℕ) → (arrival_of own r i kind b store).arrived.number ≡ 0 → own ≡ 0
+  own_zero : (own : Checked) → number_of (arrival_of own r i kind b store).arrived.answer ≡ 0 → number_of own ≡ 0
   unfolding arrival_of arrival
-  own_zero own = go (eqb (arrival_number own r i b store) 0) refl
-    where
-      passed : arrival_number own r i b store ≡ 0 → own ≡ 0
-      passed e =
-          let state = check_passed (receiver_ok r) 2 _ (omega arith) e in
-          let long = check_passed (store_fits r store) 9 _ (omega arith) state.1 in
-          let line = check_passed (ltb i r.plan.lines) 3 _ (omega arith) long.1 in
-          given_zero (eqb own 0) refl line.1
-        where
-          given_zero : (t : Bool) → eqb own 0 ≡ t → check t own (room_number r i b) ≡ 0 → own ≡ 0
-          given_zero true q z = eqb-true own 0 q
-          given_zero false q z = z
+  own_zero own =
+      by_checks (λ (a : Arrival). number_of a.arrived.answer ≡ 0 → number_of own ≡ 0) (arrival_checks own r i b store)
+      (λ passes z.
+      let state = check_passed (receiver_ok r) _ _ (ap number_of passes) in
+      let long = check_passed (store_fits r store) _ _ state.1 in
+      let line = check_passed (ltb i r.plan.lines) _ _ long.1 in
+      (own_passed own (room_check r i b) line.1).0)
+      (λ refusal fails z. absurd (no_zero refusal z))
 
-      go : (t : Bool) → eqb (arrival_number own r i b store) 0 ≡ t
-          → (cond {A = Arrival} t (record { arrived = record { number = 0; next = with_item r i (item_head + length b) }; store = with_stored r i kind b store })
-          (record { arrived = not_stored r (arrival_number own r i b store); store = store })).arrived.number ≡ 0 → own ≡ 0
-      go true q z = passed (eqb-true _ 0 q)
-      go false q z = absurd (eqb-false _ 0 q z)
-
-pub data_in_range : (r : Receiver) (i : ℕ) (b store : List ℕ) → (data_arrival r i b store).arrived.number ≡ 0 → (1 ≤ length b) × (length b ≤ r.plan.max)
+pub data_in_range : (r : Receiver) (i : ℕ) (b store : List ℕ) → number_of (data_arrival r i b store).arrived.answer ≡ 0 → (1 ≤ length b) × (length b ≤ r.plan.max)
 data_in_range r i b store e =
-    from_range 1 (length b) r.plan.max (check_passed (in_range 1 (length b) r.plan.max) 4 0 (omega arith) (own_zero r i 0 b store (data_number r b) e)).0
+    from_range 1 (length b) r.plan.max (check_passed (in_range 1 (length b) r.plan.max) _ _ (own_zero r i 0 b store (data_check r b) e)).0
 
-pub marker_whole : (r : Receiver) (i : ℕ) (b store : List ℕ) → (marker_arrival r i b store).arrived.number ≡ 0
-    → (m : Marker) × (marker_on i (quantum r.plan i) b ≡ Whole m)
-marker_whole r i b store e = go (marker_on i (quantum r.plan i) b) refl (own_zero r i 1 b store (marker_number r i b) e)
+pub marker_whole : (r : Receiver) (i : ℕ) (b store : List ℕ) → number_of (marker_arrival r i b store).arrived.answer ≡ 0
+    → (m : Marker) × (marker_on i (quantum r.plan i) b ≡ Ok m)
+marker_whole r i b store e = go (marker_on i (quantum r.plan i) b) refl (own_zero r i 1 b store (marker_check r i b) e)
   where
-    go : (t : MarkerRead) → marker_on i (quantum r.plan i) b ≡ t → number_of t ≡ 0 → (m : Marker) × (marker_on i (quantum r.plan i) b ≡ Whole m)
-    go (Whole m) is z = (m, is)
-    go (Refused k) is z = absurd (some_number i (quantum r.plan i) b k is z)
+    go : (t : MarkerRead) → marker_on i (quantum r.plan i) b ≡ t → number_of (checked t) ≡ 0 → (m : Marker) × (marker_on i (quantum r.plan i) b ≡ Ok m)
+    go (Ok m) is z = (m, is)
+    go (Err k) is z = absurd (no_zero k z)

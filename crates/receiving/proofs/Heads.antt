@@ -14,6 +14,7 @@ use Rattle.ring.proofs.Promises.{taking_drops}
 use Rattle.receiving.specs.declared.Receiver.{Receiver}
 use Rattle.receiving.specs.declared.Held.{Held}
 use Rattle.receiving.specs.declared.Taken.TheVariants.{Waiting, Data}
+use Rattle.std.specs.Prelude.{Ok}
 use Rattle.receiving.specs.Receiver.{held_of, line_of, current_line, store_fits, ring_of}
 use Rattle.receiving.specs.Taking.{Head, nothing, item_on, head_on, Stepped, step_of, TakeOutcome, taken, take_of}
 use Rattle.receiving.specs.Stage.{Stage}
@@ -65,10 +66,10 @@ module _ (s : Stage) (ok : Sound s) (out : List ℕ) where
       → take_of r s.store out ≡ taken r line (stepped h)
   head_known h is = line_taken ∙ ap (λ (h : Head). taken r line (stepped h)) is
 
-  pub empty_waits : HoldsOn line s [] → take_of r s.store out ≡ record { result = record { answer = Waiting line; next = r }; out = out }
+  pub empty_waits : HoldsOn line s [] → take_of r s.store out ≡ record { result = record { answer = Ok (Waiting line); next = r }; out = out }
   empty_waits h =
       head_known nothing (empty_head p line _ _ h)
-      ∙ ap (λ (x : Receiver). record { result = record { answer = Waiting line; next = x }; out = out }) (stays_put r ok.good)
+      ∙ ap (λ (x : Receiver). record { result = record { answer = Ok (Waiting line); next = x }; out = out }) (stays_put r ok.good)
 
   module _ (e : Entry) (es : List Entry) (h : HoldsOn line s (e ∷ es)) where
     pub head_taken : take_of r s.store out ≡ taken r line (stepped (item_on p line e.kind e.bytes))
@@ -78,9 +79,9 @@ module _ (s : Stage) (ok : Sound s) (out : List ℕ) where
     head_goes = current_goes r s.store out ok.good (item_shows p line e.kind e.bytes)
 
     -- the bytes handed out are the head's
-    pub hands_out : (i n : ℕ) → (take_of r s.store out).result.answer ≡ Data i n
+    pub hands_out : (i n : ℕ) → (take_of r s.store out).result.answer ≡ Ok (Data i n)
         → (e.kind ≡ 0) × (n ≡ length e.bytes) × (take n (take_of r s.store out).out ≡ e.bytes)
     hands_out i n =
         subst
-        (λ (t : TakeOutcome). t.result.answer ≡ Data i n → (e.kind ≡ 0) × (n ≡ length e.bytes) × (take n t.out ≡ e.bytes))
+        (λ (t : TakeOutcome). t.result.answer ≡ Ok (Data i n) → (e.kind ≡ 0) × (n ≡ length e.bytes) × (take n t.out ≡ e.bytes))
         (sym head_taken) (head_goes.hands i n)

@@ -14,9 +14,9 @@ use Rattle.numbers.specs.Checks.{all_below}
 use Rattle.numbers.specs.Wrap.{half}
 use Rattle.numbers.proofs.Checks.{both, from_range, all_at, all}
 use Rattle.plan.specs.declared.Plan.{Plan}
-use Rattle.plan.specs.Limits.{item_head, most_store}
-use Rattle.plan.specs.Plan.{quantum, plan_ok, store_ok, counters_ok}
-use Rattle.plan.proofs.Laws.{counters_in, are_counters}
+use Rattle.plan.specs.Limits.{most_lines, item_head, most_store}
+use Rattle.plan.specs.Plan.{quantum, plan_ok, store_ok, counters_ok, zeros, no_plan}
+use Rattle.plan.proofs.Laws.{counters_in, are_counters, are_zeros}
 use Rattle.report.specs.Report.{ahead}
 use Rattle.receiving.specs.declared.Rings.{Rings}
 use Rattle.receiving.specs.declared.Turns.{Turns}
@@ -25,22 +25,13 @@ use Rattle.receiving.specs.declared.Held.{Held}
 use Rattle.receiving.specs.declared.Turn.{Turn}
 use Rattle.receiving.specs.Receiver.{held_of, turn_of, with_held, with_turn, first_from, line_at, round_of, current_line, held_ok, rings_ok, near_ok, turns_ok, receiver_ok, closed_receiver, opened_receiver, open_receiver, ring_of}
 use Rattle.receiving.proofs.Lines.{with_entry}
+use Rattle.numbers.specs.declared.Refusal.TheVariants as refusal
+use Rattle.std.specs.Array.{AllOfLen}
+use Rattle.std.specs.Prelude.{Ok, Err}
 
 -- ---- the first number of which a test holds
 
 module _ (f : ℕ → Bool) where
-  pub first_here : (n i : ℕ) → f i ≡ true → i ≡ first_from f (suc n) i
-  unfolding first_from
-  first_here n i e = simp e
-
-  pub first_on : (n i : ℕ) → f i ≡ false → first_from f n (suc i) ≡ first_from f (suc n) i
-  unfolding first_from
-  first_on n i e = simp e
-
-  pub first_none : (i : ℕ) → i ≡ first_from f 0 i
-  unfolding first_from
-  first_none i = refl
-
   -- where it is one of them, the test holds of it and of none before
   pub record First (n i k : ℕ) : Type 0 where
     pub most : k ≤ i + n
@@ -143,45 +134,6 @@ is_valid r v =
       lt-ltb (current_line r) r.plan.lines v.current,
     )
 
--- ---- the check of a state, test by test
-
-module _ (p : Plan) (g : Rings) where
-  pub store_bad : store_ok p g.size ≡ false → false ≡ rings_ok p g
-  unfolding rings_ok
-  store_bad e = simp e
-
-  pub held_left : store_ok p g.size ≡ true → all_below (held_ok g) p.lines ≡ rings_ok p g
-  unfolding rings_ok
-  held_left e = simp e
-
-module _ (p : Plan) (t : Turns) where
-  pub counters_bad : counters_ok p t.counters ≡ false → false ≡ turns_ok p t
-  unfolding turns_ok
-  counters_bad e = simp e
-
-  pub near_left : counters_ok p t.counters ≡ true → all_below (near_ok t) p.lines ≡ turns_ok p t
-  unfolding turns_ok
-  near_left e = simp e
-
-module _ (r : Receiver) where
-  pub plan_bad : plan_ok r.plan ≡ false → false ≡ receiver_ok r
-  unfolding receiver_ok
-  plan_bad e = simp e
-
-  module _ (plan : plan_ok r.plan ≡ true) where
-    pub rings_bad : rings_ok r.plan r.rings ≡ false → false ≡ receiver_ok r
-    unfolding receiver_ok
-    rings_bad e = simp (plan, e)
-
-    module _ (rings : rings_ok r.plan r.rings ≡ true) where
-      pub turns_bad : turns_ok r.plan r.turns ≡ false → false ≡ receiver_ok r
-      unfolding receiver_ok
-      turns_bad e = simp (plan, rings, e)
-
-      pub current_left : turns_ok r.plan r.turns ≡ true → ltb (current_line r) r.plan.lines ≡ receiver_ok r
-      unfolding receiver_ok
-      current_left e = simp (plan, rings, e)
-
 -- the store of a plan in range
 pub record Sized (p : Plan) (size : ℕ) : Type 0 where
   pub least : p.max + item_head ≤ size
@@ -193,14 +145,34 @@ sized p size e = let s = from_range (p.max + item_head) size most_store e in rec
 
 -- ---- opening
 
-pub not_opened : (p : Plan) (size : ℕ) → plan_ok p && store_ok p size ≡ false → record { number = 1; receiver = closed_receiver } ≡ open_receiver p size
+pub not_opened : (p : Plan) (size : ℕ) → plan_ok p && store_ok p size ≡ false → Err refusal.Plan ≡ open_receiver p size
 unfolding open_receiver
 not_opened p size e = simp e
 
 pub is_opened : (p : Plan) (size : ℕ) → plan_ok p && store_ok p size ≡ true
-    → record { number = 0; receiver = opened_receiver p size } ≡ open_receiver p size
+    → Ok (opened_receiver p size) ≡ open_receiver p size
 unfolding open_receiver
 is_opened p size e = simp e
+
+-- a state from its parts
+made : Plan → ℕ → List ℕ → List ℕ → ℕ → List ℕ → List ℕ → Receiver
+made plan size heads used round rounds counters = record {
+  plan = plan;
+  rings = record { size = size; heads = heads; used = used };
+  turns = record { round = round; rounds = rounds; counters = counters };
+}
+
+-- one that has zeros alone is closed
+pub all_zeros : (r : Receiver) → r.plan ≡ no_plan → (r.rings.size ≡ 0) × (r.turns.round ≡ 0)
+    → AllOfLen (λ x. x ≡ 0) r.rings.heads most_lines → AllOfLen (λ x. x ≡ 0) r.rings.used most_lines
+    → AllOfLen (λ x. x ≡ 0) r.turns.rounds most_lines → AllOfLen (λ x. x ≡ 0) r.turns.counters most_lines → r ≡ closed_receiver
+unfolding made
+all_zeros r plan none heads used rounds counters =
+    let g = r.rings in
+    let t = r.turns in
+    let made_of : made r.plan g.size g.heads g.used t.round t.rounds t.counters ≡ made no_plan 0 zeros zeros 0 zeros zeros =
+    rw (plan, none.0, none.1, are_zeros g.heads heads, are_zeros g.used used, are_zeros t.rounds rounds, are_zeros t.counters counters) in
+    made_of
 
 -- ---- the store
 

@@ -12,14 +12,16 @@ use Rattle.numbers.proofs.Laws.{rest}
 use Rattle.receiving.specs.declared.Receiver.{Receiver}
 use Rattle.receiving.specs.declared.TakeResult.{TakeResult}
 use Rattle.receiving.specs.declared.Ended.TheVariants as ended
+use Rattle.std.specs.Prelude.{Ok, Err}
 use Rattle.receiving.specs.Receiver.{receiver_ok, store_fits}
 use Rattle.receiving.specs.Taking.{take_of}
 use Rattle.receiving.specs.Takes.{word_of, bytes_of, end_of, goes_on, stopped, takes_from, takes_of}
 use Rattle.receiving.proofs.Valid.{take_valid, refused_stays, still_fits, out_length, bytes_fit, small}
+use Rattle.numbers.specs.declared.Refusal.TheVariants as refusal
 
 module _ (store : List ℕ) (r : Receiver) (k at : ℕ) (out log : List ℕ) where
   -- the log is full
-  pub run_full : (n : ℕ) → n ≡ 0 → stopped ended.Full r k at out log ≡ takes_from n store r k at out log
+  pub run_full : (n : ℕ) → n ≡ 0 → stopped (Ok ended.Full) r k at out log ≡ takes_from n store r k at out log
   unfolding takes_from
   run_full n e = rw e refl
 
@@ -98,12 +100,12 @@ module _ (store : List ℕ) (r : Receiver) (k at : ℕ) (out log : List ℕ) (in
 -- ---- the checks before a run
 
 module _ (r : Receiver) (store out log : List ℕ) where
-  pub bad_state : receiver_ok r ≡ false → stopped (ended.Refused 2) r 0 0 out log ≡ takes_of r store out log
+  pub bad_state : receiver_ok r ≡ false → stopped (Err refusal.State) r 0 0 out log ≡ takes_of r store out log
   unfolding takes_of
   bad_state e = simp e
 
   module _ (good : receiver_ok r ≡ true) where
-    pub bad_store : (length store ≡ r.plan.lines * r.rings.size → ⊥) → stopped (ended.Refused 9) r 0 0 out log ≡ takes_of r store out log
+    pub bad_store : (length store ≡ r.plan.lines * r.rings.size → ⊥) → stopped (Err refusal.Store) r 0 0 out log ≡ takes_of r store out log
     unfolding takes_of
     bad_store h = simp (good, ne_eqb (length store) (r.plan.lines * r.rings.size) h)
 

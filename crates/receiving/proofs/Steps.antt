@@ -18,25 +18,21 @@ use Rattle.plan.specs.Limits.{most_lines, most_quantum, item_head}
 use Rattle.plan.specs.Plan.{charge_of, counter_after, round_after}
 use Rattle.plan.proofs.Laws.{LineInRange, charge_quantum}
 use Rattle.marker.specs.declared.Marker.{Marker}
-use Rattle.marker.specs.declared.MarkerRead.{MarkerRead}
-use Rattle.marker.specs.declared.MarkerRead.TheVariants as read
-use Rattle.report.specs.declared.Report.{Report}
-use Rattle.report.specs.declared.Report.TheVariants as report
-use Rattle.report.specs.Report.{marker_on, ahead, is_behind, missing, report_of}
+use Rattle.marker.specs.Marker.{MarkerRead}
+use Rattle.std.specs.Prelude.{Ok, Err, Some, None}
+use Rattle.report.specs.Report.{Report, marker_on, ahead, is_behind, missing, report_of}
 use Rattle.report.proofs.Laws.{on_line, told_near}
-use Rattle.ring.specs.declared.Front.{Front}
-use Rattle.ring.specs.declared.Front.TheVariants as front
-use Rattle.ring.specs.Ring.{onto, held, front_of}
+use Rattle.ring.specs.Ring.{Front, onto, held, front_of}
 use Rattle.receiving.specs.declared.Held.{Held}
 use Rattle.receiving.specs.declared.Turn.{Turn}
 use Rattle.receiving.specs.declared.Line.{Line}
-use Rattle.receiving.specs.declared.Taken.{Taken}
-use Rattle.receiving.specs.declared.Taken.TheVariants.{Waiting, Data, Missing, Behind, Refused}
-use Rattle.receiving.specs.Taking.{Head, nothing, packet, marker, no_item, data_head, marker_head, item_on, front_on, head_on, Stepped, stays, past, charged_turn, told_step, step_of}
+use Rattle.receiving.specs.Taking.{TakeAnswer, Head, nothing, packet, marker, no_item, data_head, marker_head, item_on, front_on, head_on, Stepped, stays, past, charged_turn, told_step, step_of}
+use Rattle.receiving.specs.declared.Taken.TheVariants.{Waiting, Data, Missing, Behind}
 use Rattle.receiving.specs.Takes.{word_of, bytes_of, goes_on}
 use Rattle.receiving.specs.Stage.{taken_from}
 use Rattle.receiving.specs.Ready.{Ready}
 use Rattle.receiving.proofs.Laws.{HeldIn, TurnIn}
+use Rattle.numbers.specs.declared.Refusal.TheVariants as refusal
 
 -- ---- what stands at a head
 
@@ -57,8 +53,8 @@ module _ (p : LinePlan) (i : ℕ) where
       data_shows false e = not_one
 
       marker_shows : (m : MarkerRead) → marker_on i p.quantum b ≡ m → Shows p kind b (marker_head (length b) m)
-      marker_shows (read.Refused k) e = not_one
-      marker_shows (read.Whole m) e = let on = on_line i p.quantum b m e in is_marker on.1 on.2
+      marker_shows (Err k) e = not_one
+      marker_shows (Ok m) e = let on = on_line i p.quantum b m e in is_marker on.1 on.2
 
       go : (t : Bool) → eqb kind 0 ≡ t → (u : Bool)
           → Shows p kind b (cond t (data_head p b) (cond u (marker_head (length b) (marker_on i p.quantum b)) no_item))
@@ -75,8 +71,8 @@ module _ (p : LinePlan) (i : ℕ) where
 
       go : (t : Bool) (f : Front) → (kind : ℕ) × (b : List ℕ) × Shows p kind b (cond t nothing (front_on p i bytes f))
       go true f = (0, [], no_head)
-      go false front.Nothing = (0, [], not_one)
-      go false (front.Item kind n) = (kind, take n (drop item_head bytes), item_shows kind (take n (drop item_head bytes)))
+      go false None = (0, [], not_one)
+      go false (Some (kind, n)) = (kind, take n (drop item_head bytes), item_shows kind (take n (drop item_head bytes)))
 
 -- ---- rounds, counters, reports
 
@@ -102,12 +98,12 @@ counter_in q counter c least most h = go (leb counter c) refl
     go false e = (omega (arith, leb-false counter c e), omega arith)
 
 -- what is reported is at most 2^31 of the largest quanta, and a counter
-told_small : (q round counter : ℕ) (m : Marker) → q ≤ most_quantum → counter ≤ q → (x : ℕ) → report_of q round counter m ≡ report.Missing x
+told_small : (q round counter : ℕ) (m : Marker) → q ≤ most_quantum → counter ≤ q → (x : ℕ) → report_of q round counter m ≡ Some x
     → x ≤ half * most_quantum + most_quantum
 unfolding report_of
 told_small q round counter m few c x e = go (is_behind round counter m) e
   where
-    go : (t : Bool) → cond t report.Behind (report.Missing (missing q round counter m)) ≡ report.Missing x → x ≤ half * most_quantum + most_quantum
+    go : (t : Bool) → cond t None (Some (missing q round counter m)) ≡ Some x → x ≤ half * most_quantum + most_quantum
     go true e = absurd (let z : ◌≡◌ {A = ℕ} 0 1 = cc in omega arith)
     go false s =
         let is : missing q round counter m ≡ x = cc in
@@ -130,21 +126,21 @@ pub record Goes (p : LinePlan) (size i : ℕ) (l : Line) (kind : ℕ) (b out : L
   pub taken : (j : ℕ) → taken_from j s.step.answer ≡ cond (goes_on s.step.answer && eqb i j) 1 0
   pub gone : goes_on s.step.answer ≡ true → s.step.line.held ≡ (past size l (length b) l.turn).held
   -- and data is all of the item's bytes
-  pub hands : (line n : ℕ) → s.step.answer ≡ Data line n → (kind ≡ 0) × (n ≡ length b) × (take n s.out ≡ b)
+  pub hands : (line n : ℕ) → s.step.answer ≡ Ok (Data line n) → (kind ≡ 0) × (n ≡ length b) × (take n s.out ≡ b)
 
 -- an answer after which a run ends says that nothing was taken
-idle : (answer : Taken) → goes_on answer ≡ false → (word_of answer ≡ 0) × (bytes_of answer ≡ 0) × ((j : ℕ) → taken_from j answer ≡ 0)
-idle (Waiting line) e = (refl, refl, λ j. refl)
-idle (Data line n) e = absurd (never e)
-idle (Missing line missing) e = absurd (never e)
-idle (Behind line) e = absurd (never e)
-idle (Refused k) e = (refl, refl, λ j. refl)
+idle : (answer : TakeAnswer) → goes_on answer ≡ false → (word_of answer ≡ 0) × (bytes_of answer ≡ 0) × ((j : ℕ) → taken_from j answer ≡ 0)
+idle (Ok (Waiting line)) e = (refl, refl, λ j. refl)
+idle (Ok (Data line n)) e = absurd (never e)
+idle (Ok (Missing line missing)) e = absurd (never e)
+idle (Ok (Behind line)) e = absurd (never e)
+idle (Err k) e = (refl, refl, λ j. refl)
 
 module _ (p : LinePlan) (size i : ℕ) (l : Line) (out : List ℕ) (line : i < most_lines) (ready : Ready p size l) where
   abbrev Kept : ℕ → List ℕ → Stepped → Type 0
   Kept kind b s = Goes p size i l kind b out s
 
-  stands : {kind : ℕ} {b : List ℕ} (answer : Taken) → goes_on answer ≡ false → Kept kind b (stays l answer out)
+  stands : {kind : ℕ} {b : List ℕ} (answer : TakeAnswer) → goes_on answer ≡ false → Kept kind b (stays l answer out)
   stands answer ends =
       let no = idle answer ends in
       record {
@@ -163,7 +159,7 @@ module _ (p : LinePlan) (size i : ℕ) (l : Line) (out : List ℕ) (line : i < m
   past_in n turn = record { head_below = mod-lt (l.held.head + (item_head + n)) (omega (arith, ready.6)); used_most = omega (arith, ready.7) }
 
   abbrev went : List ℕ → Stepped
-  went b = record { step = record { answer = Data i (length b); line = past size l (length b) (charged_turn p l.turn (length b)) }; out = onto b out }
+  went b = record { step = record { answer = Ok (Data i (length b)); line = past size l (length b) (charged_turn p l.turn (length b)) }; out = onto b out }
 
   handed : (b : List ℕ) → 1 ≤ length b → length b ≤ p.largest → length b ≤ length out → Kept 0 b (went b)
   handed b some most room =
@@ -186,7 +182,7 @@ module _ (p : LinePlan) (size i : ℕ) (l : Line) (out : List ℕ) (line : i < m
   told : {kind : ℕ} (b : List ℕ) (m : Marker) → 1 ≤ m.counter → m.counter ≤ p.quantum
       → (t : Report) → report_of p.quantum l.turn.round l.turn.counter m ≡ t
       → Kept kind b (record { step = told_step size i l (length b) m t; out = out })
-  told b m least most report.Behind e = record {
+  told b m least most None e = record {
     held = past_in (length b) l.turn;
     turn = record { counter_least = ready.4; counter_most = ready.5; near = not_ahead l.turn.round };
     small = omega (arith, line);
@@ -197,7 +193,7 @@ module _ (p : LinePlan) (size i : ℕ) (l : Line) (out : List ℕ) (line : i < m
     gone = λ _. refl;
     hands = λ j n e. absurd (let z : ◌≡◌ {A = ℕ} 0 1 = cc in omega arith);
   }
-  told b m least most (report.Missing x) e = record {
+  told b m least most (Some x) e = record {
     held = past_in (length b) l.turn;
     turn = record { counter_least = least; counter_most = most; near = told_near p.quantum l.turn.round l.turn.counter m x e };
     small = omega (arith, line, told_small p.quantum l.turn.round l.turn.counter m ready.3 ready.5 x e);
@@ -210,11 +206,11 @@ module _ (p : LinePlan) (size i : ℕ) (l : Line) (out : List ℕ) (line : i < m
   }
 
   pub step_goes : {kind : ℕ} {b : List ℕ} {h : Head} → Shows p kind b h → Kept kind b (step_of p size i l out h)
-  step_goes no_head = stands (Waiting i) refl
-  step_goes not_one = stands (Refused 9) refl
+  step_goes no_head = stands (Ok (Waiting i)) refl
+  step_goes not_one = stands (Err refusal.Store) refl
   step_goes (is_packet_lem {b} some most) = go (leb (length b) (length out)) refl
     where
-      go : (t : Bool) → leb (length b) (length out) ≡ t → Kept 0 b (cond t (went b) (stays l (Refused 8) out))
+      go : (t : Bool) → leb (length b) (length out) ≡ t → Kept 0 b (cond t (went b) (stays l (Err refusal.ShortOutput) out))
       go true e = handed b some most (leb-true (length b) (length out) e)
-      go false e = stands (Refused 8) refl
+      go false e = stands (Err refusal.ShortOutput) refl
   step_goes (is_marker {b = b} {m = m} least most) = told b m least most (report_of p.quantum l.turn.round l.turn.counter m) refl

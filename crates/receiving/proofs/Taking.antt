@@ -1,91 +1,50 @@
 -- The laws of a take, test by test: what stands at a line's head and what the line's step is, then the whole state. Assumes nothing.
-use mathlib.Core.Path.{◌≡◌, refl, ap, ◌∙◌, subst}
+use mathlib.Core.Path.{◌≡◌, refl, ap, ◌∙◌}
 use Prim.Native.Nat.{ℕ, ◌+◌, ◌-◌, ◌*◌, ◌%◌, ◌^◌, ◌≤◌, ◌<◌}
 use native.Mathlib.Omega.{arith}
-use mathlib.Core.Bool.{Bool, true, false}
-use mathlib.Core.List.{List, [], ◌++◌}
-use lib.Dec.{leb}
-use lib.ListN.{length, take, drop, length-append}
-use lib.Seq.{take-append_seam}
-use borrow.Author.Tests.{lt-ltb, le-ltb, le-leb, lt-leb, leb-true, leb-false, eq-eqb, ne_eqb}
-use Rattle.numbers.specs.declared.Written.TheVariants as Written
-use Rattle.numbers.specs.Writing.{outcome, written}
+use mathlib.Core.Bool.{true, false}
+use mathlib.Core.List.{List}
+use lib.ListN.{length}
+use borrow.Author.Tests.{lt-ltb, le-ltb, le-leb, lt-leb, eq-eqb, ne_eqb}
+use Rattle.std.specs.Prelude.{Ok, Err, Some}
 use Rattle.numbers.proofs.Checks.{in_range_lem as is_in_range}
 use Rattle.plan.specs.declared.LinePlan.{LinePlan}
 use Rattle.plan.specs.Limits.{item_head}
 use Rattle.plan.specs.Plan.{line_plan, charge_of}
 use Rattle.plan.proofs.Laws.{line_in_range}
-use Rattle.marker.specs.declared.MarkerRead.{MarkerRead}
-use Rattle.marker.specs.declared.MarkerRead.TheVariants as read
+use Rattle.marker.specs.Marker.{MarkerRead}
 use Rattle.marker.proofs.Laws.{fifteen_bytes}
 use Rattle.report.specs.Report.{marker_on, ahead}
 use Rattle.report.proofs.Laws.{on_line}
 use Rattle.theory.specs.Sending.{best}
-use Rattle.ring.specs.declared.Front.TheVariants as front
 use Rattle.ring.specs.Ring.{held, front_of, in_front}
 use Rattle.ring.proofs.Laws.{held_length, in_front_lem, front_fits}
 use Rattle.receiving.specs.declared.Held.{Held}
 use Rattle.receiving.specs.declared.Turn.{Turn}
 use Rattle.receiving.specs.declared.Line.{Line}
 use Rattle.receiving.specs.declared.Step.{Step}
-use Rattle.receiving.specs.declared.Taken.TheVariants.{Data, Refused}
 use Rattle.receiving.specs.declared.Receiver.{Receiver}
 use Rattle.receiving.specs.Receiver.{held_of, line_of, line_at, current_line, receiver_ok, store_fits, ring_of}
-use Rattle.receiving.specs.Taking.{Head, nothing, packet, no_item, data_head, marker_head, item_on, head_on, Stepped, past, charged_turn, step_of, line_step, round_now, with_line, TakeOutcome, not_taken, taken, take_at, take_of}
+use Rattle.receiving.specs.Taking.{nothing, packet, no_item, data_head, marker_head, item_on, head_on, Stepped, charged_turn, step_of, line_step, round_now, with_line, TakeOutcome, not_taken, taken, take_at, take_of}
 use Rattle.receiving.specs.Ready.{Ready}
 use Rattle.receiving.proofs.Laws.{valid}
 use Rattle.receiving.proofs.Stores.{few_rings, place}
+use Rattle.numbers.specs.declared.Refusal.{Refusal}
+use Rattle.numbers.specs.declared.Refusal.TheVariants as refusal
 
 -- ---- what stands at the head
 
 -- bytes of kind 0
-module _ (p : LinePlan) (b : List ℕ) (n : ℕ) (long : length b ≡ n) where
-  pub empty_data : n < 1 → no_item ≡ data_head p b
-  empty_data h = let z : length b < 1 = omega arith in simp (lt-leb 1 (length b) z)
+pub is_data : (p : LinePlan) (b : List ℕ) (n : ℕ) → length b ≡ n → 1 ≤ n → n ≤ p.largest → packet b ≡ data_head p b
+is_data p b n long some most = simp (is_in_range 1 (length b) p.largest (omega arith) (omega arith))
 
-  module _ (some : 1 ≤ n) where
-    pub long_data : p.largest < n → no_item ≡ data_head p b
-    long_data h =
-        let s : 1 ≤ length b = omega arith in
-        let z : p.largest < length b = omega arith in
-        simp (le-leb 1 (length b) s, lt-leb (length b) p.largest z)
-
-    pub is_data : n ≤ p.largest → packet b ≡ data_head p b
-    is_data h = simp (is_in_range 1 (length b) p.largest (omega arith) (omega arith))
-
--- a writer's answer says whether there was room
-wrote_none : (b out : List ℕ) (k : ℕ) → Written.Refused k ≡ (written b out).answer → length out < length b
-unfolding outcome
-wrote_none b out k e = go (leb (length b) (length out)) refl
+-- no marker is longer than fifteen bytes
+pub over_long : (i q : ℕ) (b : List ℕ) (n : ℕ) → 15 < length b → marker_head n (marker_on i q b) ≡ no_item
+over_long i q b n long = go (marker_on i q b) refl
   where
-    go : (t : Bool) → leb (length b) (length out) ≡ t → length out < length b
-    go true q = absurd (let z : Written.Refused k ≡ Written.Length (length b) = simp q at e in let y : ◌≡◌ {A = ℕ} 0 1 = cc in omega arith)
-    go false q = leb-false (length b) (length out) q
-
-wrote_all : (b out : List ℕ) (k : ℕ) → Written.Length k ≡ (written b out).answer → length b ≤ length out
-unfolding outcome
-wrote_all b out k e = go (leb (length b) (length out)) refl
-  where
-    go : (t : Bool) → leb (length b) (length out) ≡ t → length b ≤ length out
-    go true q = leb-true (length b) (length out) q
-    go false q = absurd (let z : Written.Length k ≡ Written.Refused 8 = simp q at e in let y : ◌≡◌ {A = ℕ} 0 1 = cc in omega arith)
-
--- no marker is longer than fifteen bytes; what is read of a shorter one is what stands there, by `ap (marker_head n)`
-pub over_long : (i q : ℕ) (b : List ℕ) (n k : ℕ) (room : List ℕ) → length room ≡ 15 → Written.Refused k ≡ (written b room).answer
-    → no_item ≡ marker_head n (marker_on i q b)
-over_long i q b n k room fifteen e = go (marker_on i q b) refl
-  where
-    go : (m : MarkerRead) → marker_on i q b ≡ m → no_item ≡ marker_head n m
-    go (read.Refused number) r = refl
-    go (read.Whole m) r = absurd (omega (arith, wrote_none b room k e, (fifteen_bytes b m (on_line i q b m r).0).0))
-
--- bytes that are copied to a place with room are the front of that place
-pub copied : (b room : List ℕ) (k : ℕ) → Written.Length k ≡ (written b room).answer → (new : List ℕ) → new ≡ (written b room).out → (n : ℕ) → length b ≡ n
-    → (n ≤ length new) × (take n new ≡ b)
-unfolding outcome
-copied b room k e new w n long =
-    let is : new ≡ b ++ drop (length b) room = simp (le-leb (length b) (length room) (wrote_all b room k e)) at w in
-    (rw (is, ← long) (simp length-append (omega arith)), rw (is, ← long) (take-append_seam b (drop (length b) room)))
+    go : (m : MarkerRead) → marker_on i q b ≡ m → marker_head n m ≡ no_item
+    go (Err refusal) e = refl
+    go (Ok m) e = absurd (omega (arith, long, (fifteen_bytes b m (on_line i q b m e).0).0))
 
 -- bytes of any kind
 module _ (p : LinePlan) (i kind : ℕ) (b : List ℕ) where
@@ -98,10 +57,6 @@ module _ (p : LinePlan) (i kind : ℕ) (b : List ℕ) where
     unfolding item_on
     marker_item e = simp (ne_eqb kind 0 no-data, eq-eqb kind 1 e)
 
-    pub other_item : (kind ≡ 1 → ⊥) → no_item ≡ item_on p i kind b
-    unfolding item_on
-    other_item no-marker = simp (ne_eqb kind 0 no-data, ne_eqb kind 1 no-marker)
-
 -- the front of a queue
 module _ (p : LinePlan) (i : ℕ) (h : Held) (ring : List ℕ) where
   pub empty_queue : h.used ≡ 0 → nothing ≡ head_on p i h ring
@@ -109,11 +64,7 @@ module _ (p : LinePlan) (i : ℕ) (h : Held) (ring : List ℕ) where
   empty_queue e = simp (eq-eqb h.used 0 e)
 
   module _ (some : h.used ≡ 0 → ⊥) where
-    pub no_front : front_of (held ring h.head h.used) ≡ front.Nothing → no_item ≡ head_on p i h ring
-    unfolding head_on
-    no_front e = simp (ne_eqb h.used 0 some, e)
-
-    pub item_front : (kind n : ℕ) → front_of (held ring h.head h.used) ≡ front.Item kind n → h.used ≤ length ring
+    pub item_front : (kind n : ℕ) → front_of (held ring h.head h.used) ≡ Some (kind, n) → h.used ≤ length ring
         → item_on p i kind (in_front ring h.head n) ≡ head_on p i h ring
     unfolding head_on
     item_front kind n e fits =
@@ -122,7 +73,7 @@ module _ (p : LinePlan) (i : ℕ) (h : Held) (ring : List ℕ) where
         rw (in_front_lem ring h.head h.used n (omega arith) fits) (simp (ne_eqb h.used 0 some, e))
 
 -- the item in front is within what is held
-pub item_fits : (h : Held) (ring : List ℕ) (kind n : ℕ) → front_of (held ring h.head h.used) ≡ front.Item kind n → h.used ≤ length ring
+pub item_fits : (h : Held) (ring : List ℕ) (kind n : ℕ) → front_of (held ring h.head h.used) ≡ Some (kind, n) → h.used ≤ length ring
     → item_head + n ≤ h.used
 item_fits h ring kind n e fits = omega (arith, front_fits (held ring h.head h.used) e, held_length ring h.head h.used fits)
 
@@ -136,31 +87,6 @@ module _ (p : LinePlan) (t : Turn) (n c : ℕ) (charge : c ≡ charge_of p n) wh
 
   pub charged : c < t.counter → record { round = t.round; counter = t.counter - c } ≡ charged_turn p t n
   charged h = rw charge (simp (lt-leb t.counter (charge_of p n) (rw (← charge) h)))
-
-module _ (p : LinePlan) (size i : ℕ) (l : Line) (out : List ℕ) where
-  -- a head is made this step of, and the output is left so
-  abbrev pub Makes : Head → Step → List ℕ → Type 0
-  Makes h s new = (s ≡ (step_of p size i l out h).step) × (new ≡ (step_of p size i l out h).out)
-
-  -- so it is of the same head, found in another way
-  pub at_head : {g h : Head} → g ≡ h → {s : Step} {new : List ℕ} → Makes g s new → Makes h s new
-  at_head e {s} {new} m = subst (λ (h : Head). Makes h s new) e m
-
-  -- a marker writes nothing, and the output does not matter to it
-  pub marker_makes : (n : ℕ) (m : MarkerRead) → Makes (marker_head n m) (step_of p size i l [] (marker_head n m)).step out
-  marker_makes n (read.Refused k) = (refl, refl)
-  marker_makes n (read.Whole m) = (refl, refl)
-
-  -- a packet, once its bytes have gone to the output, or have found no room there
-  module _ (b : List ℕ) (n : ℕ) (long : length b ≡ n) (new : List ℕ) (wrote : new ≡ (written b out).out) where
-    pub no_room_out : (k : ℕ) → Written.Refused k ≡ (written b out).answer → Makes (packet b) (record { answer = Refused 8; line = l }) new
-    unfolding outcome
-    no_room_out k e = let q = lt-leb (length b) (length out) (wrote_none b out k e) in (simp q, simp q (simp q at wrote))
-
-    pub handed_out : (k : ℕ) → Written.Length k ≡ (written b out).answer
-        → Makes (packet b) (record { answer = Data i n; line = past size l n (charged_turn p l.turn n) }) new
-    unfolding outcome
-    handed_out k e = let q = le-leb (length b) (length out) (wrote_all b out k e) in (rw (← long) (simp q), simp q (simp q at wrote))
 
 -- ---- the current round
 
@@ -176,15 +102,15 @@ module _ (lines : ℕ) (rounds : ℕ → ℕ) (round : ℕ) where
 -- ---- a take, check by check
 
 module _ (r : Receiver) (store out : List ℕ) where
-  abbrev Refuses : ℕ → Type 0
-  Refuses number = (not_taken r number ≡ (take_of r store out).result) × (out ≡ (take_of r store out).out)
+  abbrev Refuses : Refusal → Type 0
+  Refuses refusal = (not_taken r refusal ≡ (take_of r store out).result) × (out ≡ (take_of r store out).out)
 
-  pub state_refused : receiver_ok r ≡ false → Refuses 2
+  pub state_refused : receiver_ok r ≡ false → Refuses refusal.State
   unfolding take_of
   state_refused e = (simp e, simp e)
 
   module _ (good : receiver_ok r ≡ true) where
-    pub store_refused : (length store ≡ r.plan.lines * r.rings.size → ⊥) → Refuses 9
+    pub store_refused : (length store ≡ r.plan.lines * r.rings.size → ⊥) → Refuses refusal.Store
     unfolding take_of
     store_refused h = let e = ne_eqb (length store) (r.plan.lines * r.rings.size) h in (simp (good, e), simp (good, e))
 

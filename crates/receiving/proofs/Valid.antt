@@ -21,7 +21,7 @@ use Rattle.theory.proofs.Choose.{best_wins}
 use Rattle.receiving.specs.declared.Receiver.{Receiver}
 use Rattle.receiving.specs.declared.Line.{Line}
 use Rattle.receiving.specs.Receiver.{held_of, line_of, turn_of, with_turn, round_of, line_at, current_line, receiver_ok, store_fits, ring_of}
-use Rattle.receiving.specs.Arriving.{Arrival, place_of, grown, with_item, arrival_of, data_number, data_arrival, marker_number, marker_arrival}
+use Rattle.receiving.specs.Arriving.{Arrival, place_of, grown, with_item, arrival_of, data_check, data_arrival, marker_check, marker_arrival}
 use Rattle.receiving.specs.Taking.{Head, head_on, step_of, round_now, moved_on, with_line, TakeOutcome, refused_take, taken, take_at, take_of}
 use Rattle.receiving.specs.Takes.{word_of, bytes_of, goes_on}
 use Rattle.receiving.specs.Stage.{taken_from}
@@ -31,6 +31,9 @@ use Rattle.receiving.proofs.Stores.{few_rings, place}
 use Rattle.receiving.proofs.Taking.{still_at, moved_on_lem, line_ready, step_at, step_taken}
 use Rattle.receiving.proofs.Storing.{Lands, lands}
 use Rattle.receiving.proofs.Steps.{Shows, head_shows, Goes, step_goes}
+use Rattle.numbers.specs.declared.Refusal.{Refusal}
+use Rattle.numbers.specs.declared.Refusal.TheVariants as refusal
+use Rattle.numbers.specs.Checks.{Checked}
 
 -- ---- the current round
 
@@ -99,16 +102,16 @@ module _ (r : Receiver) where
 -- ---- one take
 
 -- a take is refused with the state as it was, or the current line of a valid state steps
-take_cases : (P : TakeOutcome → Type 0) (r : Receiver) (store out : List ℕ) → ((k : ℕ) → P (refused_take r k out))
+take_cases : (P : TakeOutcome → Type 0) (r : Receiver) (store out : List ℕ) → ((refusal : Refusal) → P (refused_take r refusal out))
     → (receiver_ok r ≡ true → P (taken r (current_line r) (step_at r (current_line r) store out))) → P (take_of r store out)
 unfolding take_of
 take_cases P r store out refused steps = go (receiver_ok r) refl (store_fits r store) refl
   where
     go : (t : Bool) → receiver_ok r ≡ t → (u : Bool) → store_fits r store ≡ u
-        → P (cond t (cond u (take_at r (current_line r) store out) (refused_take r 9 out)) (refused_take r 2 out))
+        → P (cond t (cond u (take_at r (current_line r) store out) (refused_take r refusal.Store out)) (refused_take r refusal.State out))
     go true g true f = subst P (sym (step_taken r (current_line r) store out (place r store (current_line r) g f (valid r g).current).ring_size)) (steps g)
-    go true g false f = refused 9
-    go false g u f = refused 2
+    go true g false f = refused refusal.Store
+    go false g u f = refused refusal.State
 
 module _ (r : Receiver) (store out : List ℕ) where
   abbrev p : LinePlan
@@ -173,16 +176,16 @@ item_valid r v i n line room =
     }
 
 module _ (r : Receiver) (i : ℕ) (b store : List ℕ) (good : receiver_ok r ≡ true) where
-  -- whatever number its own kind of item gives
-  pub arrival_valid : (kind own : ℕ) → receiver_ok (arrival_of own r i kind b store).arrived.next ≡ true
+  -- whatever its own kind of item gives
+  pub arrival_valid : (kind : ℕ) (own : Checked) → receiver_ok (arrival_of own r i kind b store).arrived.next ≡ true
   arrival_valid kind own = go (lands r i kind b store own)
     where
       go : {a : Arrival} → Lands r i kind b store a → receiver_ok a.arrived.next ≡ true
       go (inl (has, e)) = rw e (is_valid _ (item_valid r (valid r good) i (item_head + length b) has.line has.free))
-      go (inr (some, e)) = rw e good
+      go (inr (some, k, e)) = rw e good
 
   pub data_valid : receiver_ok (data_arrival r i b store).arrived.next ≡ true
-  data_valid = arrival_valid 0 (data_number r b)
+  data_valid = arrival_valid 0 (data_check r b)
 
   pub marker_valid : receiver_ok (marker_arrival r i b store).arrived.next ≡ true
-  marker_valid = arrival_valid 1 (marker_number r i b)
+  marker_valid = arrival_valid 1 (marker_check r i b)

@@ -1,5 +1,8 @@
 -- The receiver's state, line by line: when it is valid, and how it opens.
-use Rattle.std.specs.Prelude.{ℕ, zero, suc, ◌+◌, ◌*◌, Bool, ◌&&◌, cond, List, ◌++◌, ltb, leb, eqb, length, take, drop, set, replicate}
+use Rattle.std.specs.Prelude.{ℕ, zero, suc, ◌+◌, ◌*◌, Bool, ◌&&◌, cond, List, ◌++◌, ltb, leb, eqb, length, take, drop, set, replicate, Result, Ok, Err}
+use Rattle.std.specs.Result.{result_unwrap_or}
+use Rattle.numbers.specs.declared.Refusal.{Refusal}
+use Rattle.numbers.specs.declared.Refusal.TheVariants as refusal
 use Rattle.numbers.specs.Checks.{all_below}
 use Rattle.numbers.specs.Wrap.{half}
 use Rattle.plan.specs.declared.Plan.{Plan}
@@ -12,7 +15,6 @@ use Rattle.receiving.specs.declared.Receiver.{Receiver}
 use Rattle.receiving.specs.declared.Held.{Held}
 use Rattle.receiving.specs.declared.Turn.{Turn}
 use Rattle.receiving.specs.declared.Line.{Line}
-use Rattle.receiving.specs.declared.ReceiverOpened.{ReceiverOpened}
 
 -- ---- one line's figures
 
@@ -88,11 +90,16 @@ opened_receiver p size = record {
   turns = record { round = 1; rounds = first_entries p.lines (replicate most_lines 1); counters = (trimmed p).quanta };
 }
 
+-- what opening answers: the receiver, or the refusal
+abbrev pub ReceiverOpened : Type 0
+ReceiverOpened = Result Receiver Refusal
+
 unfoldable pub open_receiver : Plan → ℕ → ReceiverOpened
-open_receiver p size =
-    cond (plan_ok p && store_ok p size)
-    (record { number = 0; receiver = opened_receiver p size })
-    (record { number = 1; receiver = closed_receiver })
+open_receiver p size = cond (plan_ok p && store_ok p size) (Ok (opened_receiver p size)) (Err refusal.Plan)
+
+-- the receiver of an opening; a refusal's is the closed one
+abbrev pub receiver_of : ReceiverOpened → Receiver
+receiver_of o = result_unwrap_or o closed_receiver
 
 -- ---- the store: line i owns the S bytes from i × S
 

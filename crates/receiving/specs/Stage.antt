@@ -1,9 +1,9 @@
 -- What the stage holds, and its lines' queues.
-use Rattle.std.specs.Prelude.{ℕ, cond, List, eqb}
+use Rattle.std.specs.Prelude.{ℕ, cond, List, eqb, Ok, Err}
 use Rattle.ring.specs.Queue.{Entry, queue}
 use Rattle.receiving.specs.declared.Receiver.{Receiver}
-use Rattle.receiving.specs.declared.Taken.{Taken}
-use Rattle.receiving.specs.declared.Taken.TheVariants.{Waiting, Data, Missing, Behind, Refused}
+use Rattle.receiving.specs.Taking.{TakeAnswer}
+use Rattle.receiving.specs.declared.Taken.TheVariants.{Waiting, Data, Missing, Behind}
 use Rattle.receiving.specs.Receiver.{held_of, ring_of}
 
 -- the receiver and its store
@@ -21,9 +21,9 @@ queue_on i s =
     queue (ring_of s.receiver.rings.size s.store i) h.head h.used
 
 -- how many items an answer says were taken from line i
-abbrev pub taken_from : ℕ → Taken → ℕ
-taken_from i (Waiting line) = 0
-taken_from i (Data line n) = cond (eqb line i) 1 0
-taken_from i (Missing line missing) = cond (eqb line i) 1 0
-taken_from i (Behind line) = cond (eqb line i) 1 0
-taken_from i (Refused k) = 0
+abbrev pub taken_from : ℕ → TakeAnswer → ℕ
+taken_from i (Ok (Waiting line)) = 0
+taken_from i (Ok (Data line n)) = cond (eqb line i) 1 0
+taken_from i (Ok (Missing line missing)) = cond (eqb line i) 1 0
+taken_from i (Ok (Behind line)) = cond (eqb line i) 1 0
+taken_from i (Err refusal) = 0

@@ -1,19 +1,17 @@
 -- One take: what it answers, and the state and the output as it leaves them.
-use Rattle.std.specs.Prelude.{ℕ, ◌+◌, ◌-◌, ◌%◌, cond, List, [], ◌∷◌, ltb, leb, eqb, length, take, drop}
+use Rattle.std.specs.Prelude.{ℕ, ◌+◌, ◌-◌, ◌%◌, cond, List, [], ◌∷◌, ltb, leb, eqb, length, take, drop, Some, None, Result, Ok, Err}
+use Rattle.numbers.specs.declared.Refusal.{Refusal}
+use Rattle.numbers.specs.declared.Refusal.TheVariants as refusal
+use Rattle.numbers.specs.Refusals.{number}
 use Rattle.numbers.specs.Checks.{in_range}
 use Rattle.plan.specs.declared.LinePlan.{LinePlan}
 use Rattle.plan.specs.Limits.{item_head}
 use Rattle.plan.specs.Plan.{line_plan, charge_of, counter_after, round_after}
 use Rattle.marker.specs.declared.Marker.{Marker}
-use Rattle.marker.specs.declared.MarkerRead.{MarkerRead}
-use Rattle.marker.specs.declared.MarkerRead.TheVariants as read
+use Rattle.marker.specs.Marker.{MarkerRead}
 use Rattle.theory.specs.Sending.{best}
-use Rattle.report.specs.declared.Report.{Report}
-use Rattle.report.specs.declared.Report.TheVariants as report
-use Rattle.report.specs.Report.{marker_on, ahead, report_of}
-use Rattle.ring.specs.declared.Front.{Front}
-use Rattle.ring.specs.declared.Front.TheVariants as front
-use Rattle.ring.specs.Ring.{onto, held, front_of}
+use Rattle.report.specs.Report.{Report, marker_on, ahead, report_of}
+use Rattle.ring.specs.Ring.{Front, onto, held, front_of}
 use Rattle.receiving.specs.declared.Turns.{Turns}
 use Rattle.receiving.specs.declared.Receiver.{Receiver}
 use Rattle.receiving.specs.declared.Held.{Held}
@@ -21,24 +19,28 @@ use Rattle.receiving.specs.declared.Turn.{Turn}
 use Rattle.receiving.specs.declared.Line.{Line}
 use Rattle.receiving.specs.declared.Step.{Step}
 use Rattle.receiving.specs.declared.Taken.{Taken}
-use Rattle.receiving.specs.declared.Taken.TheVariants.{Waiting, Data, Missing, Behind, Refused}
+use Rattle.receiving.specs.declared.Taken.TheVariants.{Waiting, Data, Missing, Behind}
 use Rattle.receiving.specs.declared.TakeResult.{TakeResult}
 use Rattle.receiving.specs.Receiver.{line_of, with_held, with_turn, line_at, round_of, current_line, receiver_ok, store_fits, ring_of}
 
--- the table's number that a take gives, 0 for none; and its line, with the length of data or the bytes missing
-abbrev pub taken_number : Taken → ℕ
-taken_number (Waiting line) = 0
-taken_number (Data line n) = 0
-taken_number (Missing line missing) = 0
-taken_number (Behind line) = 11
-taken_number (Refused k) = k
+-- what a take answers, or the refusal
+abbrev pub TakeAnswer : Type 0
+TakeAnswer = Result Taken Refusal
 
-abbrev pub taken_values : Taken → List ℕ
-taken_values (Waiting line) = line ∷ []
-taken_values (Data line n) = line ∷ n ∷ []
-taken_values (Missing line missing) = line ∷ missing ∷ []
-taken_values (Behind line) = line ∷ 0 ∷ []
-taken_values (Refused k) = []
+-- the table's number that a take gives, 0 for none; and its line, with the length of data or the bytes missing
+abbrev pub taken_number : TakeAnswer → ℕ
+taken_number (Ok (Waiting line)) = 0
+taken_number (Ok (Data line n)) = 0
+taken_number (Ok (Missing line missing)) = 0
+taken_number (Ok (Behind line)) = 11
+taken_number (Err refusal) = number refusal
+
+abbrev pub taken_values : TakeAnswer → List ℕ
+taken_values (Ok (Waiting line)) = line ∷ []
+taken_values (Ok (Data line n)) = line ∷ n ∷ []
+taken_values (Ok (Missing line missing)) = line ∷ missing ∷ []
+taken_values (Ok (Behind line)) = line ∷ 0 ∷ []
+taken_values (Err refusal) = []
 
 -- ---- what stands at the head of a line's queue
 
@@ -53,8 +55,8 @@ abbrev pub data_head : LinePlan → List ℕ → Head
 data_head p b = cond (in_range 1 (length b) p.largest) (packet b) no_item
 
 abbrev pub marker_head : ℕ → MarkerRead → Head
-marker_head n (read.Whole m) = marker n m
-marker_head n (read.Refused k) = no_item
+marker_head n (Ok m) = marker n m
+marker_head n (Err refusal) = no_item
 
 -- an item on line i: kind 0 is data, 1 a marker, and no other is one
 unfoldable pub item_on : LinePlan → ℕ → ℕ → List ℕ → Head
@@ -64,8 +66,8 @@ item_on p i kind b =
     no_item)
 
 abbrev pub front_on : LinePlan → ℕ → List ℕ → Front → Head
-front_on p i bytes front.Nothing = no_item
-front_on p i bytes (front.Item kind n) = item_on p i kind (take n (drop item_head bytes))
+front_on p i bytes None = no_item
+front_on p i bytes (Some (kind, n)) = item_on p i kind (take n (drop item_head bytes))
 
 unfoldable pub head_on : LinePlan → ℕ → Held → List ℕ → Head
 head_on p i h ring =
@@ -78,7 +80,7 @@ pub record Stepped : Type 0 where
   pub step : Step
   pub out : List ℕ
 
-abbrev pub stays : Line → Taken → List ℕ → Stepped
+abbrev pub stays : Line → TakeAnswer → List ℕ → Stepped
 stays l answer out = record { step = record { answer = answer; line = l }; out = out }
 
 -- an item of n bytes is gone from the ring, and the line's turn is now this
@@ -97,17 +99,17 @@ charged_turn p t n = record {
 
 -- a marker: it is behind, or what is missing is reported and the line's round and counter become the marker's
 abbrev pub told_step : ℕ → ℕ → Line → ℕ → Marker → Report → Step
-told_step size i l n m report.Behind = record { answer = Behind i; line = past size l n l.turn }
-told_step size i l n m (report.Missing x) = record { answer = Missing i x; line = past size l n (record { round = m.round; counter = m.counter }) }
+told_step size i l n m None = record { answer = Ok (Behind i); line = past size l n l.turn }
+told_step size i l n m (Some x) = record { answer = Ok (Missing i x); line = past size l n (record { round = m.round; counter = m.counter }) }
 
 -- waiting, 9 (item), 8 for data, outcome
 abbrev pub step_of : LinePlan → ℕ → ℕ → Line → List ℕ → Head → Stepped
-step_of p size i l out nothing = stays l (Waiting i) out
-step_of p size i l out no_item = stays l (Refused 9) out
+step_of p size i l out nothing = stays l (Ok (Waiting i)) out
+step_of p size i l out no_item = stays l (Err refusal.Store) out
 step_of p size i l out (packet b) =
     cond (leb (length b) (length out))
-    (record { step = record { answer = Data i (length b); line = past size l (length b) (charged_turn p l.turn (length b)) }; out = onto b out })
-    (stays l (Refused 8) out)
+    (record { step = record { answer = Ok (Data i (length b)); line = past size l (length b) (charged_turn p l.turn (length b)) }; out = onto b out })
+    (stays l (Err refusal.ShortOutput) out)
 step_of p size i l out (marker n m) = record { step = told_step size i l n m (report_of p.quantum l.turn.round l.turn.counter m); out = out }
 
 -- a take of one line, over its ring
@@ -137,11 +139,11 @@ pub record TakeOutcome : Type 0 where
   pub result : TakeResult
   pub out : List ℕ
 
-abbrev pub not_taken : Receiver → ℕ → TakeResult
-not_taken r number = record { answer = Refused number; next = r }
+abbrev pub not_taken : Receiver → Refusal → TakeResult
+not_taken r refusal = record { answer = Err refusal; next = r }
 
-abbrev pub refused_take : Receiver → ℕ → List ℕ → TakeOutcome
-refused_take r number out = record { result = not_taken r number; out = out }
+abbrev pub refused_take : Receiver → Refusal → List ℕ → TakeOutcome
+refused_take r refusal out = record { result = not_taken r refusal; out = out }
 
 abbrev pub taken : Receiver → ℕ → Stepped → TakeOutcome
 taken r i s = record { result = record { answer = s.step.answer; next = with_line r i s.step.line }; out = s.out }
@@ -153,4 +155,4 @@ take_at r i store out = taken r i (line_step (line_plan r.plan i) i (line_of r i
 -- 2, 9 (length), then what the line gives
 unfoldable pub take_of : Receiver → List ℕ → List ℕ → TakeOutcome
 take_of r store out =
-    cond (receiver_ok r) (cond (store_fits r store) (take_at r (current_line r) store out) (refused_take r 9 out)) (refused_take r 2 out)
+    cond (receiver_ok r) (cond (store_fits r store) (take_at r (current_line r) store out) (refused_take r refusal.Store out)) (refused_take r refusal.State out)

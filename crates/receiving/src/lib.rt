@@ -2,11 +2,12 @@
 // calls are in specs/: Receiver, Arriving, Taking, and Takes for runs; the code is in the crates `receiver` and `taking`.
 #![tactic(auto)]
 
+use numbers::Refusal;
 use plan::Plan;
 
-// What is stored. Line i owns the `size` bytes of the store from i times `size`, and holds `used` of them from `heads` on, round the end.
+// What is stored, in arrays side by side, as the C struct has them. Line i owns the `size` bytes of the store from i times `size`, and holds `used` of them from `heads` on, round the end.
 #[repr(C)]
-#[derive(Clone, Copy)]
+#[derive(Clone, Copy, Default)]
 pub struct Rings {
     pub size: u32,
     pub heads: [u32; Plan::MOST_LINES],
@@ -15,7 +16,7 @@ pub struct Rings {
 
 // Whose turn it is: the current round, and where each line stands.
 #[repr(C)]
-#[derive(Clone, Copy)]
+#[derive(Clone, Copy, Default)]
 pub struct Turns {
     pub round: u32,
     pub rounds: [u32; Plan::MOST_LINES],
@@ -24,7 +25,7 @@ pub struct Turns {
 
 // Entries for lines from the plan's `lines` on are ignored and kept.
 #[repr(C)]
-#[derive(Clone, Copy)]
+#[derive(Clone, Copy, Default)]
 pub struct Receiver {
     pub plan: Plan,
     pub rings: Rings,
@@ -50,56 +51,49 @@ pub struct Line {
     pub turn: Turn,
 }
 
-// What opening answers: 0 and the receiver, or 1 and the closed state, all zeros.
-#[derive(Clone, Copy)]
-pub struct ReceiverOpened {
-    pub number: u32,
-    pub receiver: Receiver,
-}
-
-// What an arrival answers: 0 where it is stored, or the number of the refusal.
+// What an arrival answers, and the next state.
 #[derive(Clone, Copy)]
 pub struct Arrived {
-    pub number: u32,
+    pub answer: Result<(), Refusal>,
     pub next: Receiver,
 }
 
-// What a take answers, each with its line: the queue is empty; a packet of so many bytes; a marker, before which so many bytes are missing;
-// a marker that its line has gone past (11). Or the number of the refusal.
+// What a take finds, each with its line: the queue is empty; a packet of so many bytes; a marker, before which so many bytes are missing;
+// a marker that its line has gone past (11).
 #[derive(Clone, Copy)]
 pub enum Taken {
     Waiting(u32),
     Data(u32, u32),
     Missing(u32, u64),
     Behind(u32),
-    Refused(u32),
 }
 
+// What a take answers, and the next state.
 #[derive(Clone, Copy)]
 pub struct TakeResult {
-    pub answer: Taken,
+    pub answer: Result<Taken, Refusal>,
     pub next: Receiver,
 }
 
 // What a take of one line answers, and the line's figures after it: as they were, where nothing moved.
 #[derive(Clone, Copy)]
 pub struct Step {
-    pub answer: Taken,
+    pub answer: Result<Taken, Refusal>,
     pub line: Line,
 }
 
-// How a run of takes ended: the log is full, a line is waited for, or a take was refused.
+// Where a run of takes ends: the log is full, or a line is waited for.
 #[derive(Clone, Copy)]
 pub enum Ended {
     Full,
     Waiting(u32),
-    Refused(u32),
 }
 
-// What a run of takes answers: how it ended, how many takes there were and how many bytes they wrote.
+// What a run of takes answers: how it ended, or the refusal that ended it; how many takes there were and how many bytes they wrote; and the next
+// state.
 #[derive(Clone, Copy)]
 pub struct TakesResult {
-    pub ended: Ended,
+    pub ended: Result<Ended, Refusal>,
     pub taken: usize,
     pub bytes: usize,
     pub next: Receiver,

@@ -1,27 +1,21 @@
 -- What stands at a place of a recording: a number, or a row of bytes behind its length. Assumes nothing.
-use Rattle.std.specs.Prelude.{ℕ, ◌+◌, cond, List, drop, length, leb}
-use Rattle.numbers.specs.declared.Reading.{Reading}
-use Rattle.numbers.specs.declared.Reading.TheVariants.{Number, Nothing}
-use Rattle.numbers.specs.Coding.{reading_of}
-use Rattle.recording.specs.declared.Part.{Part}
+use Rattle.std.specs.Prelude.{ℕ, ◌+◌, List, drop, length, Option, Some, None, if◌then◌else◌, nat_le}
+use Rattle.std.specs.declared.ops.Range.{Range}
+use Rattle.numbers.specs.Coding.{Reading, reading_of}
 
 -- a reading of what stands from a place on, its place counted from the front
 abbrev pub from : ℕ → Reading → Reading
-from at Nothing = Nothing
-from at (Number v n) = Number v (at + n)
+from at None = None
+from at (Some (v, n)) = Some (v, at + n)
 
 -- past the end there is nothing
 unfoldable pub number_at : List ℕ → ℕ → Reading
 number_at s at = from at (reading_of 32 (drop at s))
 
--- no part ends at 0
-abbrev pub no_part : Part
-no_part = record { from = 0; end = 0 }
-
 -- so many bytes from the place after their length, where the recording has them
-abbrev pub part_of : List ℕ → Reading → Part
-part_of s Nothing = no_part
-part_of s (Number n at) = cond (leb (at + n) (length s)) (record { from = at; end = at + n }) no_part
+abbrev pub part_of : List ℕ → Reading → Option (Range ℕ)
+part_of s None = None
+part_of s (Some (n, at)) = if nat_le (at + n) (length s) then Some (record { start = at; end = at + n }) else None
 
-unfoldable pub part_at : List ℕ → ℕ → Part
+unfoldable pub part_at : List ℕ → ℕ → Option (Range ℕ)
 part_at s at = part_of s (number_at s at)

@@ -3,49 +3,25 @@
 #![tactic(auto)]
 
 ghost use Rattle.std.specs.Prelude.{◌≡◌};
-ghost use Rattle.recording.specs.Recording.{number_at, no_part, part_at};
+ghost use Rattle.recording.specs.Recording.{number_at, part_at};
 
-use numbers::Reading;
-
-// Bytes of a recording, from a place to another.
-#[derive(Clone, Copy)]
-pub struct Part {
-    pub from: usize,
-    pub end: usize,
-}
+use std::ops::Range;
 
 // The number at a place of a recording, and the place after it.
-pub fn number_at(s: &[u8], at: usize) -> Reading
+#[tactic(auto, using(numbers::proofs::Laws::place, crate::proofs::Laws::past_end), unfolding(crate::specs::Recording::number_at))]
+pub fn number_at(s: &[u8], at: usize) -> Option<(u32, usize)>
     ensures { result ≡ number_at s.now at }
 {
-    if s.len() < at {
-        return Reading::Nothing;
-    }
-    let Reading::Number(v, n) = numbers::read_number(&s[at..]) else {
-        return Reading::Nothing;
-    };
-    Reading::Number(v, at + n)
+    let (v, n) = numbers::read_number(s.get(at..)?)?;
+    Some((v, at + n))
 }
 
-fn no_part() -> Part
-    ensures { result ≡ no_part }
-{
-    Part { from: 0, end: 0 }
-}
-
-// The row of bytes whose length stands at a place of a recording.
-pub fn part_at(s: &[u8], at: usize) -> Part
+// Where the row of bytes stands whose length stands at a place of a recording.
+#[tactic(auto, using(crate::proofs::Laws::within), unfolding(crate::specs::Recording::part_at))]
+pub fn part_at(s: &[u8], at: usize) -> Option<Range<usize>>
     ensures { result ≡ part_at s.now at }
 {
-    let Reading::Number(size, from) = number_at(s, at) else {
-        return no_part();
-    };
-    let n = size as usize;
-    if s.len() - from < n {
-        return no_part();
-    }
-    Part {
-        from,
-        end: from + n,
-    }
+    let (size, from) = number_at(s, at)?;
+    let end = from + size as usize;
+    (end <= s.len()).then_some(from..end)
 }

@@ -4,45 +4,39 @@
 
 ghost use Rattle.std.specs.Prelude.{◌≡◌, ◌+◌, ◌-◌, ◌*◌, ◌<◌};
 ghost use Rattle.marker.specs.Marker.{judge};
-ghost use Rattle.report.specs.Report.{on_number, marker_on, ahead, report_of};
+ghost use Rattle.report.specs.Report.{on_checks, marker_on, ahead, report_of};
 
-use marker::{Marker, MarkerRead};
-
-// The bytes missing before a marker; or the line has gone past it.
-#[derive(Clone, Copy)]
-pub enum Report {
-    Missing(u64),
-    Behind,
-}
+use marker::Marker;
+use numbers::Refusal;
 
 // A marker that holds for a line of that quantum. Refused: 5, 6.
-fn checked(line: u32, quantum: u32, m: Marker) -> MarkerRead
-    ensures { result ≡ judge (on_number line quantum m) m }
+#[tactic(auto, unfolding(marker::specs::Marker::judge))]
+fn checked(line: u32, quantum: u32, m: Marker) -> Result<Marker, Refusal>
+    ensures { result ≡ judge (on_checks line quantum m) m }
 {
     if !numbers::in_range(1, m.counter, quantum) {
-        return MarkerRead::Refused(5);
+        return Err(Refusal::NoMarker);
     }
     if m.line != line {
-        return MarkerRead::Refused(6);
+        return Err(Refusal::OtherLine);
     }
-    MarkerRead::Whole(m)
+    Ok(m)
 }
 
 // Reads the marker that s is, on a line of that quantum. Refused: 5, 6.
-pub fn read_on(line: u32, quantum: u32, s: &[u8]) -> MarkerRead
+#[tactic(auto, unfolding(crate::specs::Report::marker_on))]
+pub fn read_on(line: u32, quantum: u32, s: &[u8]) -> Result<Marker, Refusal>
     ensures { result ≡ marker_on line quantum s.now }
 {
-    match marker::read_record(s) {
-        MarkerRead::Whole(m) => checked(line, quantum, m),
-        MarkerRead::Refused(number) => MarkerRead::Refused(number),
-    }
+    checked(line, quantum, marker::read_record(s)?)
 }
 
 // How many rounds one is ahead of another.
+#[tactic(auto, unfolding(crate::specs::Report::ahead))]
 pub fn rounds_ahead(round: u32, from: u32) -> u32
     ensures { result ≡ ahead round from }
 {
-    std::num::wrapping_sub_u32(round, from)
+    round.wrapping_sub(from)
 }
 
 // A marker ahead of its line reports whole quanta and what differs in the counters.
@@ -57,19 +51,20 @@ fn owed(rounds: u32, quantum: u32, counter: u32, reached: u32) -> u64
     due - less
 }
 
-// What a marker reports on a line of that quantum, round and counter.
-pub fn tell(quantum: u32, round: u32, counter: u32, m: Marker) -> Report
+// The bytes missing before a marker, on a line of that quantum, round and counter; nothing where the line has gone past it.
+#[tactic(auto, unfolding(crate::specs::Report::report_of))]
+pub fn tell(quantum: u32, round: u32, counter: u32, m: Marker) -> Option<u64>
     ensures { result ≡ report_of quantum round counter m }
 {
     let rounds = rounds_ahead(m.round, round);
     let behind = 0x8000_0000 <= rounds;
     if behind {
-        return Report::Behind;
+        return None;
     }
     if rounds == 0 {
         if counter < m.counter {
-            return Report::Behind;
+            return None;
         }
     }
-    Report::Missing(owed(rounds, quantum, counter, m.counter))
+    Some(owed(rounds, quantum, counter, m.counter))
 }

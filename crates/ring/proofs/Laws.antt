@@ -2,24 +2,21 @@
 -- is what is read there. Callers cite these and not the definitions' text. Assumes nothing.
 use mathlib.Core.Path.{◌≡◌, refl, ap, sym, ◌∙◌}
 use mathlib.Core.Bool.{Bool, true, false, cond}
-use mathlib.Core.List.{List, [], ◌∷◌, ◌++◌, append_assoc}
+use mathlib.Core.List.{List, [], ◌∷◌, ◌++◌, append_assoc, append-nil}
 use mathlib.Core.Logic.{dite}
-use Prim.Native.Nat.{ℕ, min, suc, ◌+◌, ◌-◌, ◌*◌, ◌/◌, ◌%◌, ◌≤◌, ◌<◌}
-use native.Mathlib.Nat.{zero-add, suc-add, mod-lt, mod-mod, mod-eq_of_lt, mod-eq-sub-mod, mod-add-mod}
+use Prim.Native.Nat.{ℕ, min, ◌+◌, ◌-◌, ◌*◌, ◌/◌, ◌%◌, ◌≤◌, ◌<◌}
+use native.Mathlib.Nat.{zero-add, mod-lt, mod_self, mod-mod, mod-eq_of_lt, mod-eq-sub-mod, mod-add-mod}
 use native.Mathlib.Decide.{dec_lt}
 use native.Mathlib.Omega.{arith}
 use lib.Dec.{leb}
-use lib.ListN.{length, get_or, take, drop, set, length-append, length-take, length-drop, length-set, take-append-drop, get_or-append}
-use lib.Seq.{take_all, take-nil, take-length, length-take-le, take-take, take-add, take-append-le, take-append-add, take-append_seam, take-suc, take-set-le, take-set-lt}
-use lib.Seq.{drop-nil, drop-length, drop-drop, drop-append-le, drop-append-add, drop-append_seam, drop_at, drop-cons, drop-set-lt, drop-set-add}
-use lib.Seq.{sets-eq, set_at, append_snoc, set-append_left, get_or-take, get_or-drop, get_or-append-add}
+use lib.ListN.{length, get_or, take, drop, length-append, length-take, length-drop, take-append-drop, get_or-append}
+use lib.Seq.{take_all, take-nil, take_at, take-length, length-take-le, take-take, take-add, take-append-le, take-append-add, take-append_seam, drop-nil, drop-length, drop-drop, drop-append-le, drop-append-add, drop-append_seam, drop_at, sets-eq, get_or-take, get_or-drop, get_or-append-add}
 use borrow.Author.Tests.{leb-true, le-leb, lt-leb}
-use Rattle.numbers.specs.declared.Written.TheVariants.{Length}
+use Rattle.std.specs.Prelude.{Ok, Some, None}
 use Rattle.numbers.specs.Writing.{written}
 use Rattle.numbers.proofs.Laws.{written_fits}
 use Rattle.plan.specs.Limits.{item_head}
-use Rattle.ring.specs.declared.Front.TheVariants.{Item, Nothing}
-use Rattle.ring.specs.Ring.{turned, from_ring, onto, into_ring, item_bytes, held, room_for, stored, front_of, in_front}
+use Rattle.ring.specs.Ring.{turned, from_ring, onto, into_ring, item_bytes, held, room_for, stored, front_of, in_front, Front}
 
 -- ---- turns
 
@@ -75,10 +72,6 @@ turned_same a x y h n e = sym (turned_back a x h) ∙ rw (e, n) (turned_back a y
 
 -- ---- a byte of a turned list
 
-set-append_add : (x y : List ℕ) (i v : ℕ) → set (x ++ y) (length x + i) v ≡ x ++ set y i v
-set-append_add [] y i v = rw zero-add
-set-append_add (a ∷ x) y i v = rw suc-add (ap (λ (l : List ℕ). a ∷ l) (set-append_add x y i v))
-
 module _ (at i : ℕ) (l : List ℕ) (inside : at < length l) (below : i < length l) where
   -- the place of byte i past the end
   past_end : length l ≤ at + i → (at + i) % length l ≡ at + i - length l
@@ -96,18 +89,6 @@ module _ (at i : ℕ) (l : List ℕ) (inside : at < length l) (below : i < lengt
       ap (λ (k : ℕ). get_or (turned at l) k 0) (past_front h) ∙ get_or-append-add (drop at l) (take at l) (at + i - length l) 0
       ∙ get_or-take at l (at + i - length l) 0 (omega arith) ∙ rw (past_end h))
 
-  pub turned_set : (v : ℕ) → turned at (set l ((at + i) % length l) v) ≡ set (turned at l) i v
-  turned_set v =
-      dite (dec_lt (at + i) (length l))
-      (λ on.
-      rw (mod-eq_of_lt on, drop-set-add, take-set-le at l (at + i) v (omega arith))
-      (sym (set-append_left (drop at l) (take at l) i v (simp length-drop (omega arith)))))
-      (λ over.
-      let h : length l ≤ at + i = omega arith in
-      let j : at + i - length l < at = omega arith in
-      rw (past_end h, drop-set-lt at l (at + i - length l) v j, take-set-lt at l (at + i - length l) v j)
-      (sym (set-append_add (drop at l) (take at l) (at + i - length l) v) ∙ ap (λ (k : ℕ). set (turned at l) k v) (sym (past_front h))))
-
 -- ---- bytes over the front of others
 
 onto_length : (s d : List ℕ) → length s ≤ length d → length (onto s d) ≡ length d
@@ -123,13 +104,6 @@ pub onto_none : (s d : List ℕ) → length s ≡ 0 → d ≡ onto s d
 onto_none [] d h = refl
 onto_none (a ∷ s) d h = absurd (omega arith)
 
--- one byte more
-pub onto_next : (s d : List ℕ) (i : ℕ) → i < length s → i < length d → set (onto (take i s) d) i (get_or s i 0) ≡ onto (take (suc i) s) d
-onto_next s d i hs hd =
-    let n : length (take i s) ≡ i = length-take-le i s (omega arith) in
-    let m : length (take (suc i) s) ≡ suc i = length-take-le (suc i) s (omega arith) in
-    rw (n, m, drop-cons d i 0 hd, set_at (take i s) (get_or d i 0) (drop (suc i) d) (get_or s i 0) i n, take-suc s i 0 hs, append_snoc)
-
 -- two runs, the second read from where the first ends
 onto_both : (a b d : List ℕ) → length a + length b ≤ length d → turned (length a) (onto (a ++ b) d) ≡ onto b (turned (length a) (onto a d))
 onto_both a b d h =
@@ -138,22 +112,29 @@ onto_both a b d h =
 
 -- what a writer leaves that has laid its bytes over the front of the output
 pub onto_written : (s out : List ℕ) (n : ℕ) → n ≡ length s → n ≤ length out → (end : List ℕ) → end ≡ onto s out
-    → (Length n ≡ (written s out).answer) × (end ≡ (written s out).out)
+    → (Ok n ≡ (written s out).answer) × (end ≡ (written s out).out)
 onto_written s out n counted fits end e =
     written_fits s out n counted fits end (e ∙ sym (sets-eq s out 0 (omega arith) ∙ simp zero-add))
 
 -- ---- bytes read from a place on
 
-pub from_none : (ring : List ℕ) (at : ℕ) (out : List ℕ) → out ≡ onto (from_ring ring at 0) out
+-- a run up to the ring's end, and what is left from its start
+pub from_runs : (ring : List ℕ) (at n : ℕ) → at ≤ length ring → n ≤ length ring
+    → from_ring ring at n ≡ take (min n (length ring - at)) (drop at ring) ++ take (n - min n (length ring - at)) ring
 unfolding from_ring
-from_none ring at out = refl
-
--- one byte more
-pub from_next : (ring out : List ℕ) (at i : ℕ) → at < length ring → i < length ring → i < length out
-    → set (onto (from_ring ring at i) out) i (get_or ring ((at + i) % length ring) 0) ≡ onto (from_ring ring at (suc i)) out
-unfolding from_ring
-from_next ring out at i inside below room =
-    rw (← turned_get at i ring inside below) (onto_next (turned at ring) out i (omega (arith, turned_length at ring)) room)
+from_runs ring at n inside most =
+    let d : length (drop at ring) ≡ length ring - at = length-drop at ring in
+    dite (dec_lt (length ring - at) n)
+    (λ over.
+    let first : min n (length ring - at) ≡ length (drop at ring) = omega arith in
+    let left : n ≡ length (drop at ring) + (n - length (drop at ring)) = omega arith in
+    rw (first, take-length)
+    (ap (λ (k : ℕ). take k (turned at ring)) left ∙ take-append-add (drop at ring) (take at ring) (n - length (drop at ring))
+    ∙ ap (λ (l : List ℕ). drop at ring ++ l) (take-take (n - length (drop at ring)) at ring (omega arith))))
+    (λ straight.
+    let all : min n (length ring - at) ≡ n = omega arith in
+    let none : n - n ≡ 0 = omega arith in
+    rw (all, none) (turned_front at n ring (omega arith) ∙ sym (append-nil (take n (drop at ring)))))
 
 -- there are no more than all of them
 pub from_most : (ring : List ℕ) (at n : ℕ) → from_ring ring at (min n (length ring)) ≡ from_ring ring at n
@@ -183,25 +164,21 @@ module _ (ring : List ℕ) (at : ℕ) (s : List ℕ) (inside : at ≤ length rin
       rw back at (turned_back (length ring - at) (onto s (turned at ring)) (omega arith))
 
   -- and only so
-  pub into_only : (new : List ℕ) → length new ≡ length ring → turned at new ≡ onto s (turned at ring) → new ≡ into_ring ring at s
+  into_only : (new : List ℕ) → length new ≡ length ring → turned at new ≡ onto s (turned at ring) → new ≡ into_ring ring at s
   unfolding into_ring
   into_only new n e = sym (turned_back at new (omega arith)) ∙ rw (n, e)
 
-pub into_none : (ring : List ℕ) (at : ℕ) → at ≤ length ring → ring ≡ into_ring ring at []
-into_none ring at inside = into_only ring at [] inside (omega arith) ring refl refl
-
--- one byte more
-pub into_next : (ring : List ℕ) (at : ℕ) (s : List ℕ) (i : ℕ) → at < length ring → length s ≤ length ring → i < length s
-    → set (into_ring ring at (take i s)) ((at + i) % length ring) (get_or s i 0) ≡ into_ring ring at (take (suc i) s)
-into_next ring at s i inside fits h =
-    let now = into_ring ring at (take i s) in
-    let part : length (take i s) ≤ length ring = simp length-take (omega arith) in
-    let more : length (take (suc i) s) ≤ length ring = simp length-take (omega arith) in
-    let n : length now ≡ length ring = into_length ring at (take i s) (omega arith) part in
-    into_only ring at (take (suc i) s) (omega arith) more (set now ((at + i) % length ring) (get_or s i 0)) (simp length-set n)
-    (ap (λ (k : ℕ). turned at (set now ((at + i) % k) (get_or s i 0))) (sym n) ∙ turned_set at i now (omega arith) (omega arith) (get_or s i 0)
-    ∙ ap (λ (l : List ℕ). set l i (get_or s i 0)) (into_turned ring at (take i s) (omega arith) part)
-    ∙ onto_next s (turned at ring) i h (omega (arith, turned_length at ring)))
+-- a run that does not come to the ring's end
+into_straight : (ring : List ℕ) (at : ℕ) (s : List ℕ) → at + length s ≤ length ring → take at ring ++ onto s (drop at ring) ≡ into_ring ring at s
+into_straight ring at s fits =
+    let front : length (take at ring) ≡ at = length-take-le at ring (omega arith) in
+    let room : length s ≤ length (drop at ring) = simp length-drop (omega arith) in
+    let new = take at ring ++ onto s (drop at ring) in
+    let n : length new ≡ length ring =
+    length-append (take at ring) (onto s (drop at ring)) ∙ omega (arith, onto_length s (drop at ring) room, length-drop at ring) in
+    into_only ring at s (omega arith) (omega arith) new n
+    (rw (drop_at (take at ring) (onto s (drop at ring)) at front, take_at (take at ring) (onto s (drop at ring)) at front, append_assoc)
+    (ap (λ (l : List ℕ). s ++ l) (sym (drop-append-le (length s) (drop at ring) (take at ring) room))))
 
 -- what is laid in behind what was laid in
 pub into_both : (ring : List ℕ) (at : ℕ) (a b : List ℕ) → at < length ring → length a + length b ≤ length ring
@@ -225,6 +202,27 @@ into_both ring at a b inside fits =
     (turned_same (length a) (turned at full) (onto (a ++ b) was) (omega (arith, turned_length at full)) (turned_length at full ∙ k ∙ sym o)
     (second ∙ laid ∙ sym (onto_both a b was (omega arith))))
 
+-- a run up to the ring's end, and what is left from its start
+pub into_runs : (ring : List ℕ) (at first : ℕ) (s : List ℕ) → at < length ring → length s ≤ length ring → first ≡ min (length s) (length ring - at)
+    → onto (drop first s) (take at ring ++ onto (take first s) (drop at ring)) ≡ into_ring ring at s
+into_runs ring at first s inside most e =
+    let size = length ring in
+    let n : length (take first s) ≡ first = length-take-le first s (omega arith) in
+    let m : length (drop first s) ≡ length s - first = length-drop first s in
+    let half = into_ring ring at (take first s) in
+    let straight : take at ring ++ onto (take first s) (drop at ring) ≡ half = into_straight ring at (take first s) (omega arith) in
+    dite (dec_lt first (length s))
+    (λ over.
+    let full : at + length (take first s) ≡ size = omega arith in
+    let start : (at + length (take first s)) % size ≡ 0 = rw full (mod_self size) in
+    let k : length half ≡ size = into_length ring at (take first s) (omega arith) (omega arith) in
+    ap (onto (drop first s)) straight ∙ into_straight half 0 (drop first s) (omega arith)
+    ∙ ap (λ (p : ℕ). into_ring half p (drop first s)) (sym start)
+    ∙ into_both ring at (take first s) (drop first s) inside (omega arith) ∙ ap (into_ring ring at) (take-append-drop first s))
+    (λ all.
+    sym (onto_none (drop first s) (take at ring ++ onto (take first s) (drop at ring)) (omega arith)) ∙ straight
+    ∙ ap (into_ring ring at) (take_all first s (omega arith)))
+
 -- ---- what a ring holds
 
 pub held_most : (ring : List ℕ) (head used : ℕ) → length (held ring head used) ≡ min used (length ring)
@@ -239,6 +237,16 @@ pub held_byte_lem : (ring : List ℕ) (head used k : ℕ) → k < min used (leng
 unfolding held from_ring
 held_byte_lem ring head used k h =
     get_or-take used (turned (head % length ring) ring) k 0 (omega arith) ∙ turned_get (head % length ring) k ring (mod-lt head (omega arith)) (omega arith)
+
+-- a byte of an item's head, as it is copied to the front of others
+pub held_front : (ring : List ℕ) (head used k : ℕ) (over : List ℕ) → k < item_head → item_head ≤ min used (length ring)
+    → get_or (onto (from_ring ring (head % length ring) item_head) over) k 0 ≡ get_or (held ring head used) k 0
+unfolding held from_ring
+held_front ring head used k over h most =
+    let l = turned (head % length ring) ring in
+    let long : k < length (take item_head l) = omega (arith, length-take item_head l, turned_length (head % length ring) ring) in
+    get_or-append (take item_head l) (drop (length (take item_head l)) over) 0 k long ∙ get_or-take item_head l k 0 h
+    ∙ sym (get_or-take used l k 0 (omega arith))
 
 -- a place is the same a full turn on
 pub held_mod : (ring : List ℕ) (head used : ℕ) → held ring (head % length ring) used ≡ held ring head used
@@ -333,47 +341,55 @@ in_front_length ring head n h = in_front_most ring head n ∙ omega arith
 abbrev pub told : List ℕ → ℕ
 told s = get_or s 1 0 + get_or s 2 0 * 256
 
-pub too_few : (s : List ℕ) → length s < item_head → Nothing ≡ front_of s
+pub too_few : (s : List ℕ) → length s < item_head → None ≡ front_of s
 unfolding front_of
 too_few [] h = refl
 too_few (kind ∷ []) h = refl
 too_few (kind ∷ low ∷ []) h = refl
 too_few (kind ∷ low ∷ high ∷ rest) h = absurd (omega arith)
 
-pub cut_short : (s : List ℕ) → item_head ≤ length s → length s - item_head < told s → Nothing ≡ front_of s
+pub cut_short : (s : List ℕ) → item_head ≤ length s → length s - item_head < told s → None ≡ front_of s
 unfolding front_of
 cut_short [] h k = absurd (omega arith)
 cut_short (kind ∷ []) h k = absurd (omega arith)
 cut_short (kind ∷ low ∷ []) h k = absurd (omega arith)
 cut_short (kind ∷ low ∷ high ∷ rest) h k = simp (lt-leb (low + high * 256) (length rest) (omega arith))
 
-pub all_there : (s : List ℕ) → item_head ≤ length s → told s ≤ length s - item_head → Item (get_or s 0 0) (told s) ≡ front_of s
+pub all_there : (s : List ℕ) → item_head ≤ length s → told s ≤ length s - item_head → Some ((get_or s 0 0), (told s)) ≡ front_of s
 unfolding front_of
 all_there [] h k = absurd (omega arith)
 all_there (kind ∷ []) h k = absurd (omega arith)
 all_there (kind ∷ low ∷ []) h k = absurd (omega arith)
 all_there (kind ∷ low ∷ high ∷ rest) h k = simp (le-leb (low + high * 256) (length rest) (omega arith))
 
--- an item in front is there as a whole
-pub front_fits : (s : List ℕ) {kind n : ℕ} → front_of s ≡ Item kind n → item_head + n ≤ length s
+-- and as the code has its kind and length
+pub there : (s : List ℕ) (kind n : ℕ) → kind ≡ get_or s 0 0 → n ≡ told s → item_head ≤ length s → n ≤ length s - item_head → Some (kind, n) ≡ front_of s
+there s kind n e f h k = rw (e, f) (all_there s h (omega arith))
+
+-- an item in front, of that kind and length
+abbrev item_front : ℕ → ℕ → Front
+item_front kind n = Some (kind, n)
+
+-- it is there as a whole
+pub front_fits : (s : List ℕ) {kind n : ℕ} → front_of s ≡ Some (kind, n) → item_head + n ≤ length s
 unfolding front_of
 front_fits [] e = absurd (let z : ◌≡◌ {A = ℕ} 0 1 = cc in omega arith)
 front_fits (kind ∷ []) e = absurd (let z : ◌≡◌ {A = ℕ} 0 1 = cc in omega arith)
 front_fits (kind ∷ low ∷ []) e = absurd (let z : ◌≡◌ {A = ℕ} 0 1 = cc in omega arith)
 front_fits (first ∷ low ∷ high ∷ rest) {kind} {n} e = go (leb (low + high * 256) (length rest)) refl e
   where
-    go : (t : Bool) → leb (low + high * 256) (length rest) ≡ t → cond t (Item first (low + high * 256)) Nothing ≡ Item kind n
+    go : (t : Bool) → leb (low + high * 256) (length rest) ≡ t → cond {A = Front} t (Some (first, low + high * 256)) None ≡ Some (kind, n)
         → item_head + n ≤ length (first ∷ low ∷ high ∷ rest)
-    go true h e = let same : low + high * 256 ≡ n = cc in omega (arith, leb-true (low + high * 256) (length rest) h)
+    go true h e = let pair : ◌≡◌ {A = ℕ × ℕ} (first, low + high * 256) (kind, n) = cc in omega (arith, ap (λ (x : ℕ × ℕ). x.1) pair, leb-true (low + high * 256) (length rest) h)
     go false h e = absurd (let z : ◌≡◌ {A = ℕ} 0 1 = cc in omega arith)
 
 -- an item is read as it was laid, whatever follows
 module _ (kind : ℕ) (b rest : List ℕ) where
-  pub front_item : length b < 65536 → front_of (item_bytes kind b ++ rest) ≡ Item kind (length b)
+  pub front_item : length b < 65536 → front_of (item_bytes kind b ++ rest) ≡ Some (kind, length b)
   front_item short =
       let both : length b % 256 + length b / 256 % 256 * 256 ≡ length b = omega arith in
       let n : length (b ++ rest) ≡ length b + length rest = length-append b rest in
-      sym (all_there (item_bytes kind b ++ rest) (omega arith) (omega arith)) ∙ ap (Item kind) both
+      sym (all_there (item_bytes kind b ++ rest) (omega arith) (omega arith)) ∙ ap (λ (n : ℕ). item_front kind n) both
 
   pub front_bytes : take (length b) (drop item_head (item_bytes kind b ++ rest)) ≡ b
   front_bytes = take-append_seam b rest

@@ -5,7 +5,7 @@ use Prim.Native.Nat.{ℕ, zero, suc, ◌+◌, ◌-◌, ◌%◌, ◌≤◌, ◌<�
 use native.Mathlib.Omega.{arith}
 use lib.ListN.{length, take, drop, length-append}
 use Rattle.plan.specs.Limits.{item_head}
-use Rattle.ring.specs.declared.Front.TheVariants.{Item}
+use Rattle.std.specs.Prelude.{Some}
 use Rattle.ring.specs.Ring.{from_ring, into_ring, item_bytes, held, stored, front_of, in_front}
 use Rattle.ring.specs.Queue.{Entry, entry, and_more, items_in, queue, row_of, Short, Holds}
 use Rattle.ring.proofs.Laws.{held_length, held_drop, stored_length, push, in_front_lem, front_item, front_bytes, front_rest}
@@ -34,7 +34,7 @@ storing_appends ring head used kind b es h room short = record {
 
 -- the item in front is the oldest, and without it the ring holds the others
 pub taking_drops : (ring : List ℕ) (head used : ℕ) (e : Entry) (es : List Entry) → Holds ring head used (e ∷ es)
-    → (front_of (held ring head used) ≡ Item e.kind (length e.bytes))
+    → (front_of (held ring head used) ≡ Some (e.kind, (length e.bytes)))
     × (in_front ring head (length e.bytes) ≡ e.bytes)
     × (item_head + length e.bytes ≤ used)
     × Holds ring ((head + (item_head + length e.bytes)) % length ring) (used - (item_head + length e.bytes)) es

@@ -1,9 +1,7 @@
 -- What a ring means: the items in it, oldest first.
-use Rattle.std.specs.Prelude.{ℕ, zero, suc, ◌+◌, ◌≤◌, ◌<◌, ◌≡◌, List, [], ◌∷◌, ◌++◌, length, take, drop}
+use Rattle.std.specs.Prelude.{ℕ, zero, suc, ◌+◌, ◌≤◌, ◌<◌, ◌≡◌, List, [], ◌∷◌, ◌++◌, length, take, drop, Some, None}
 use Rattle.plan.specs.Limits.{item_head}
-use Rattle.ring.specs.declared.Front.{Front}
-use Rattle.ring.specs.declared.Front.TheVariants.{Item, Nothing}
-use Rattle.ring.specs.Ring.{item_bytes, held, front_of}
+use Rattle.ring.specs.Ring.{Front, item_bytes, held, front_of}
 
 -- an item of a queue
 pub record Entry : Type 0 where
@@ -15,8 +13,8 @@ entry kind bytes = record { kind = kind; bytes = bytes }
 
 -- the items at the front of the bytes, at most so many
 abbrev pub and_more : List ℕ → (List ℕ → List Entry) → Front → List Entry
-and_more s more Nothing = []
-and_more s more (Item kind n) = entry kind (take n (drop item_head s)) ∷ more (drop (item_head + n) s)
+and_more s more None = []
+and_more s more (Some (kind, n)) = entry kind (take n (drop item_head s)) ∷ more (drop (item_head + n) s)
 
 unfoldable pub items_in : ℕ → List ℕ → List Entry
 items_in zero s = []

@@ -1,8 +1,6 @@
 -- A line's ring: S bytes that are used round their end, and the items in it.
-use Rattle.std.specs.Prelude.{ℕ, ◌+◌, ◌-◌, ◌*◌, ◌/◌, ◌%◌, Bool, cond, List, [], ◌∷◌, ◌++◌, leb, length, take, drop}
+use Rattle.std.specs.Prelude.{ℕ, ◌+◌, ◌-◌, ◌*◌, ◌/◌, ◌%◌, Bool, cond, List, [], ◌∷◌, ◌++◌, leb, length, take, drop, Option, Some, None}
 use Rattle.plan.specs.Limits.{item_head}
-use Rattle.ring.specs.declared.Front.{Front}
-use Rattle.ring.specs.declared.Front.TheVariants.{Item, Nothing}
 
 -- ---- bytes of a ring
 
@@ -39,12 +37,16 @@ room_for size used n = leb (item_head + n) (size - used)
 unfoldable pub stored : List ℕ → ℕ → ℕ → ℕ → List ℕ → List ℕ
 stored ring head used kind b = into_ring ring ((head + used) % length ring) (item_bytes kind b)
 
+-- an item's kind and length, or nothing that can be one
+abbrev pub Front : Type 0
+Front = Option (ℕ × ℕ)
+
 -- the kind and the length of the item in front: there is none where fewer bytes are held than that
 unfoldable pub front_of : List ℕ → Front
-front_of [] = Nothing
-front_of (kind ∷ []) = Nothing
-front_of (kind ∷ low ∷ []) = Nothing
-front_of (kind ∷ low ∷ high ∷ rest) = cond (leb (low + high * 256) (length rest)) (Item kind (low + high * 256)) Nothing
+front_of [] = None
+front_of (kind ∷ []) = None
+front_of (kind ∷ low ∷ []) = None
+front_of (kind ∷ low ∷ high ∷ rest) = cond {A = Front} (leb (low + high * 256) (length rest)) (Some (kind, low + high * 256)) None
 
 -- the n bytes of the item at the head
 abbrev pub in_front : List ℕ → ℕ → ℕ → List ℕ

@@ -4,177 +4,151 @@
 
 ghost use Rattle.std.specs.Prelude.{◌≡◌, ◌≤◌};
 ghost use Rattle.plan.specs.Plan.{at};
-ghost use Rattle.sending.specs.Sender.{sender_ok, closed_sender, open_sender, not_sent, went, send_of, marker_from};
-ghost use Rattle.sender.specs.Ready.{Ready};
+ghost use Rattle.sending.specs.Sender.{sender_ok, closed_sender, open_sender, went, send_of, marker_from};
+ghost use Rattle.sender.specs.Ready.{Ready, charged};
 
 use marker::Marker;
-use numbers::Written;
+use numbers::Refusal;
 use plan::Plan;
-use sending::{SendResult, Sender, SenderOpened, Sent};
+use sending::{SendResult, Sender, Went};
 
 // Whether a state is valid.
+#[tactic(auto, unfolding(sending::specs::Sender::sender_ok))]
 fn sender_ok(s: Sender) -> bool
     ensures { result ≡ sender_ok s }
 {
-    let p = s.plan;
-    if !plan::plan_ok(p) {
-        return false;
-    }
-    if p.lines <= s.line {
-        return false;
-    }
-    if !numbers::in_range(1, s.countdown, p.interval) {
-        return false;
-    }
-    let counters = s.counters;
-    plan::counters_ok(p, counters)
+    plan::plan_ok(s.plan)
+        && s.line < s.plan.lines
+        && numbers::in_range(1, s.countdown, s.plan.interval)
+        && plan::counters_ok(s.plan, s.counters)
 }
 
 // The closed state, all zeros, which every other call refuses.
+#[tactic(auto, using(sending::proofs::Laws::all_zeros, plan::proofs::Laws::all_zeros))]
 pub fn closed() -> Sender
     ensures { result ≡ closed_sender }
 {
-    let plan = plan::no_plan();
-    Sender {
-        plan,
-        line: 0,
-        countdown: 0,
-        rounds: [0; Plan::MOST_LINES],
-        counters: [0; Plan::MOST_LINES],
-    }
+    Sender::default()
 }
 
 // Opens a sender on a plan. Refused: 1.
-pub fn open(p: Plan) -> SenderOpened
+#[tactic(auto, unfolding(sending::specs::Sender::open_sender))]
+pub fn open(p: Plan) -> Result<Sender, Refusal>
     ensures { result ≡ open_sender p }
 {
     if !plan::plan_ok(p) {
-        let sender = closed();
-        return SenderOpened { number: 1, sender };
+        return Err(Refusal::Plan);
     }
-    let kept = plan::trim(p);
-    let counters = kept.quanta;
-    let ones = [1u32; Plan::MOST_LINES];
-    let rounds = plan::first_entries(p.lines as usize, ones);
-    SenderOpened {
-        number: 0,
-        sender: Sender {
-            plan: kept,
-            line: 0,
-            countdown: p.interval,
-            rounds,
-            counters,
-        },
-    }
-}
-
-fn refused(s: Sender, number: u32) -> SendResult
-    ensures { result ≡ not_sent s number }
-{
-    SendResult {
-        answer: Sent::Refused(number),
-        next: s,
-    }
+    let plan = plan::trim(p);
+    let rounds = plan::first_entries(p.lines as usize, [1; Plan::MOST_LINES]);
+    let counters = plan.quanta;
+    Ok(Sender {
+        plan,
+        line: 0,
+        countdown: p.interval,
+        rounds,
+        counters,
+    })
 }
 
 // The current line's counter has run out: it is topped up, its round rises, and the next line becomes current.
+#[tactic(auto, using(sending::proofs::Laws::next_line, sending::proofs::Laws::markers_due, sending::proofs::Laws::round_over))]
 fn move_on(s: Sender, charge: u32) -> SendResult
     requires { Ready s charge × (at s.counters s.line ≤ charge) }
     ensures { result ≡ went s charge }
 {
-    let p = s.plan;
-    let quanta = p.quanta;
-    let counters = s.counters;
-    let rounds = s.rounds;
     let i = s.line as usize;
-    let round = std::num::wrapping_add_u32(rounds[i], 1);
     let mut next = s;
-    next.counters[i] = counters[i] + quanta[i] - charge;
-    next.rounds[i] = round;
-    if s.line + 1 < p.lines {
-        next.line = s.line + 1;
-        return SendResult {
-            answer: Sent::Went(s.line, false),
-            next,
+    next.counters[i] = s.counters[i] + s.plan.quanta[i] - charge;
+    next.rounds[i] = s.rounds[i].wrapping_add(1);
+    let mut due = false;
+    if s.line + 1 < s.plan.lines {
+        next.line += 1;
+    } else {
+        next.line = 0;
+        due = s.countdown == 1;
+        next.countdown = if due {
+            s.plan.interval
+        } else {
+            s.countdown - 1
         };
     }
-    next.line = 0;
-    if s.countdown == 1 {
-        next.countdown = p.interval;
-        return SendResult {
-            answer: Sent::Went(s.line, true),
-            next,
-        };
-    }
-    next.countdown = s.countdown - 1;
     SendResult {
-        answer: Sent::Went(s.line, false),
+        answer: Ok(Went { line: s.line, due }),
         next,
     }
 }
 
 // A packet that is charged so much goes to the current line.
+#[tactic(auto, using(sending::proofs::Laws::stays))]
 fn go(s: Sender, charge: u32) -> SendResult
     requires { Ready s charge }
     ensures { result ≡ went s charge }
 {
-    let counters = s.counters;
     let i = s.line as usize;
-    let counter = counters[i];
-    if counter <= charge {
+    if s.counters[i] <= charge {
         return move_on(s, charge);
     }
     let mut next = s;
-    next.counters[i] = counter - charge;
+    next.counters[i] -= charge;
     SendResult {
-        answer: Sent::Went(s.line, false),
+        answer: Ok(Went {
+            line: s.line,
+            due: false,
+        }),
         next,
     }
 }
 
+// What a packet of that length is charged on the current line. Refused: 2, 4, 10.
+#[tactic(auto, using(crate::proofs::Readying::in_reach), unfolding(sending::specs::Sender::send_checks))]
+fn charged(s: Sender, length: usize) -> Result<u32, Refusal>
+    ensures { result ≡ charged s length }
+{
+    if !sender_ok(s) {
+        return Err(Refusal::State);
+    }
+    if !(1..=s.plan.max as usize).contains(&length) {
+        return Err(Refusal::Length);
+    }
+    let i = s.line as usize;
+    let charge = plan::charge(plan::line_plan(s.plan, s.line), length as u32);
+    if s.counters[i] + s.plan.quanta[i] <= charge {
+        return Err(Refusal::Counter);
+    }
+    Ok(charge)
+}
+
 // Sends a packet of that length. Refused: 2, 4, 10.
+#[tactic(auto, using(crate::proofs::Readying::ready, crate::proofs::Readying::goes, crate::proofs::Readying::refused))]
 pub fn send(s: Sender, length: usize) -> SendResult
     ensures { result ≡ send_of s length }
 {
-    if !sender_ok(s) {
-        return refused(s, 2);
+    match charged(s, length) {
+        Ok(charge) => go(s, charge),
+        Err(refusal) => SendResult {
+            answer: Err(refusal),
+            next: s,
+        },
     }
-    let p = s.plan;
-    if length < 1 {
-        return refused(s, 4);
-    }
-    if (p.max as usize) < length {
-        return refused(s, 4);
-    }
-    let quanta = p.quanta;
-    let counters = s.counters;
-    let i = s.line as usize;
-    let line = plan::line_plan(p, s.line);
-    let charge = plan::charge(line, length as u32);
-    if counters[i] + quanta[i] <= charge {
-        return refused(s, 10);
-    }
-    go(s, charge)
 }
 
-// Writes a marker with a line's figures to the front of out; asking changes no state. Refused: 2, 3, 8.
-pub fn marker_from(s: Sender, line: u32, out: &mut [u8]) -> Written
+// Writes a marker with a line's figures to the front of out, and answers the length written; asking changes no state. Refused: 2, 3, 8.
+#[tactic(auto, using(crate::proofs::Readying::in_reach, sending::proofs::Laws::state_not_asked, sending::proofs::Laws::line_not_asked, sending::proofs::Laws::as_asked))]
+pub fn marker_from(s: Sender, line: u32, out: &mut [u8]) -> Result<usize, Refusal>
     ensures { (result ≡ (marker_from s line out.old).answer) × (out.new ≡ (marker_from s line out.old).out) }
 {
     if !sender_ok(s) {
-        return Written::Refused(2);
+        return Err(Refusal::State);
     }
-    let p = s.plan;
-    if p.lines <= line {
-        return Written::Refused(3);
+    if s.plan.lines <= line {
+        return Err(Refusal::Line);
     }
-    let rounds = s.rounds;
-    let counters = s.counters;
     let i = line as usize;
     let m = Marker {
         line,
-        round: rounds[i],
-        counter: counters[i],
+        round: s.rounds[i],
+        counter: s.counters[i],
     };
     marker::write_record(m, out)
 }

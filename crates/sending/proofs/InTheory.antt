@@ -14,9 +14,8 @@ use Rattle.theory.specs.FirstForm.{Figures, first_send, first_after}
 use Rattle.theory.specs.Demands.{Sound, Shows}
 use Rattle.theory.proofs.Proved.{promises}
 use Rattle.sending.specs.declared.Sender.{Sender}
-use Rattle.sending.specs.declared.SenderOpened.{SenderOpened}
 use Rattle.sending.specs.declared.SendResult.{SendResult}
-use Rattle.sending.specs.Sender.{sender_ok, opened_sender, open_sender, next_sender, charge_now, send_of}
+use Rattle.sending.specs.Sender.{sender_ok, opened_sender, open_sender, next_sender, charge_now, send_of, sender_of}
 use Rattle.sending.specs.InTheory.{is_packet, in_theory, figures_of}
 use Rattle.sending.proofs.Laws.{Valid, valid, is_valid, is_opened}
 use Rattle.sending.proofs.Steps.{stands, next_valid, next_figures, packet_covered, packet_goes}
@@ -86,8 +85,8 @@ module _ (p : Plan) (good : plan_ok p ≡ true) (sixteen : length p.quanta ≡ m
   few : p.lines ≤ most_lines
   few = (in_range_lem p good).few_lines
 
-  pub opens : (open_sender p).sender ≡ opened_sender p
-  opens = ap (λ (o : SenderOpened). o.sender) (sym (is_opened p good))
+  pub opens : sender_of (open_sender p) ≡ opened_sender p
+  opens = ap sender_of (sym (is_opened p good))
 
   opened_valid : Valid (opened_sender p)
   opened_valid =

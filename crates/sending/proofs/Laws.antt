@@ -1,27 +1,29 @@
 -- The laws of a valid sender and of its calls, test by test. Assumes nothing.
-use mathlib.Core.Path.{◌≡◌, refl}
+use mathlib.Core.Path.{◌≡◌, ap}
 use Prim.Native.Nat.{ℕ, suc, ◌+◌, ◌-◌, ◌%◌, ◌≤◌, ◌<◌}
 use native.Mathlib.Numerals.{add-one}
 use native.Mathlib.Omega.{arith}
-use mathlib.Core.Bool.{Bool, true, false, cond}
+use mathlib.Core.Bool.{Bool, true, false}
 use mathlib.Core.List.{List}
-use lib.ListN.{set}
+use lib.ListN.{set, get_or}
 use lib.Seq.{set-get_or}
-use lib.Dec.{ltb, eqb}
-use borrow.Author.Tests.{ltb-true, lt-ltb, le-ltb, le-leb, lt-leb, eq-eqb, ne_eqb, eqb-true}
-use Rattle.numbers.specs.declared.Written.TheVariants as w
-use Rattle.numbers.specs.Checks.{check, in_range}
+use lib.Dec.{ltb}
+use borrow.Author.Tests.{ltb-true, lt-ltb, le-ltb, le-leb, lt-leb, eq-eqb, ne_eqb}
+use Rattle.std.specs.Array.{AllOfLen}
+use Rattle.std.specs.Prelude.{Ok, Err}
+use Rattle.numbers.specs.declared.Refusal.TheVariants as refusal
+use Rattle.numbers.specs.Refusals.{number_of}
+use Rattle.numbers.specs.Checks.{in_range}
 use Rattle.numbers.specs.Wrap.{wrap}
 use Rattle.numbers.specs.Writing.{written, outcome}
-use Rattle.numbers.proofs.Checks.{check_passed, both, in_range_lem as is_in_range, from_range}
+use Rattle.numbers.proofs.Checks.{check_passed, by_checks, both, in_range_lem as is_in_range, from_range}
 use Rattle.plan.specs.declared.Plan.{Plan}
 use Rattle.plan.specs.Limits.{most_lines}
-use Rattle.plan.specs.Plan.{at, quantum, plan_ok, counters_ok}
-use Rattle.plan.proofs.Laws.{in_range_lem, counters_in, are_counters}
+use Rattle.plan.specs.Plan.{at, quantum, plan_ok, counters_ok, zeros, no_plan}
+use Rattle.plan.proofs.Laws.{in_range_lem, counters_in, are_counters, are_zeros}
 use Rattle.sending.specs.declared.Sender.{Sender}
-use Rattle.sending.specs.declared.Sent.TheVariants.{Went, Refused}
 use Rattle.sending.specs.declared.SendResult.{SendResult}
-use Rattle.sending.specs.Sender.{sender_ok, closed_sender, opened_sender, open_sender, next_sender, not_sent, went, charge_now, send_number, send_of, line_marker, marker_from}
+use Rattle.sending.specs.Sender.{Sent, went_to, sent_values, sender_ok, closed_sender, opened_sender, open_sender, next_sender, went, charge_now, send_checks, send_of, line_marker, marker_from}
 
 -- ---- a valid state
 
@@ -59,26 +61,6 @@ is_valid s v =
       are_counters s.plan s.counters (λ i h. (v.counter_least i h, v.counter_most i h)),
     )
 
--- the check of a state, test by test
-module _ (s : Sender) where
-  pub plan_bad : plan_ok s.plan ≡ false → false ≡ sender_ok s
-  unfolding sender_ok
-  plan_bad e = simp e
-
-  module _ (plan : plan_ok s.plan ≡ true) where
-    pub line_bad : s.plan.lines ≤ s.line → false ≡ sender_ok s
-    unfolding sender_ok
-    line_bad h = simp (plan, le-ltb s.line s.plan.lines h)
-
-    module _ (line : s.line < s.plan.lines) where
-      pub countdown_bad : in_range 1 s.countdown s.plan.interval ≡ false → false ≡ sender_ok s
-      unfolding sender_ok
-      countdown_bad e = simp (plan, lt-ltb s.line s.plan.lines line, e)
-
-      pub counters_left : in_range 1 s.countdown s.plan.interval ≡ true → counters_ok s.plan s.counters ≡ sender_ok s
-      unfolding sender_ok
-      counters_left e = simp (plan, lt-ltb s.line s.plan.lines line, e)
-
 -- ---- a send, step by step
 
 -- a state whose figures are these, all else as it was
@@ -87,7 +69,7 @@ moved s line countdown rounds counters = record { plan = s.plan; line = line; co
 
 module _ (s : Sender) (c : ℕ) where
   abbrev answered : Bool → Sender → SendResult
-  answered due next = record { answer = Went s.line due; next = next }
+  answered due next = record { answer = went_to s.line due; next = next }
 
   pub stays : c < at s.counters s.line
       → answered false (moved s s.line s.countdown s.rounds (set s.counters s.line (at s.counters s.line - c))) ≡ went s c
@@ -118,48 +100,28 @@ module _ (s : Sender) (c : ℕ) where
       round_over h =
           simp (le-leb (at s.counters s.line) c out, le-ltb (suc s.line) s.plan.lines (omega arith), eq-eqb (suc s.line) s.plan.lines last, ne_eqb s.countdown 1 h)
 
--- ---- a send, check by check
+-- ---- a send that is not refused
 
-module _ (s : Sender) (length : ℕ) where
-  pub state_refused : sender_ok s ≡ false → not_sent s 2 ≡ send_of s length
-  unfolding send_of send_number
-  state_refused e = simp e
+pub covered_went : (s : Sender) (length : ℕ) → sender_ok s ≡ true → 1 ≤ length → length ≤ s.plan.max
+    → charge_now s length < at s.counters s.line + quantum s.plan s.line → went s (charge_now s length) ≡ send_of s length
+unfolding send_of send_checks
+covered_went s length good some most h =
+    simp (good, le-leb 1 length some, le-leb length s.plan.max most, lt-ltb (charge_now s length) (at s.counters s.line + quantum s.plan s.line) h)
 
-  module _ (good : sender_ok s ≡ true) where
-    pub none_refused : length < 1 → not_sent s 4 ≡ send_of s length
-    unfolding send_of send_number
-    none_refused h = simp (good, lt-leb 1 length h)
-
-    module _ (some : 1 ≤ length) where
-      pub long_refused : s.plan.max < length → not_sent s 4 ≡ send_of s length
-      unfolding send_of send_number
-      long_refused h = simp (good, le-leb 1 length some, lt-leb length s.plan.max h)
-
-      module _ (most : length ≤ s.plan.max) where
-        pub uncovered_refused : at s.counters s.line + quantum s.plan s.line ≤ charge_now s length → not_sent s 10 ≡ send_of s length
-        unfolding send_of send_number
-        uncovered_refused h =
-            simp (good, le-leb 1 length some, le-leb length s.plan.max most, le-ltb (charge_now s length) (at s.counters s.line + quantum s.plan s.line) h)
-
-        pub covered_went : charge_now s length < at s.counters s.line + quantum s.plan s.line → went s (charge_now s length) ≡ send_of s length
-        unfolding send_of send_number
-        covered_went h =
-            simp (good, le-leb 1 length some, le-leb length s.plan.max most, lt-ltb (charge_now s length) (at s.counters s.line + quantum s.plan s.line) h)
-
--- a send that is not refused was of a valid state
-pub number_valid : (s : Sender) (size : ℕ) → send_number s size ≡ 0 → sender_ok s ≡ true
-unfolding send_number
-number_valid s size e = (check_passed (sender_ok s) 2 _ (omega arith) e).0
+-- it was of a valid state
+pub number_valid : (s : Sender) (size : ℕ) → number_of (send_checks s size) ≡ 0 → sender_ok s ≡ true
+unfolding send_checks
+number_valid s size e = (check_passed (sender_ok s) _ _ e).0
 
 -- ---- a marker from a state, check by check
 
 module _ (s : Sender) (i : ℕ) (out : List ℕ) where
-  pub state_not_asked : sender_ok s ≡ false → (w.Refused 2 ≡ (marker_from s i out).answer) × (out ≡ (marker_from s i out).out)
+  pub state_not_asked : sender_ok s ≡ false → (Err refusal.State ≡ (marker_from s i out).answer) × (out ≡ (marker_from s i out).out)
   unfolding marker_from outcome
   state_not_asked e = (simp e, simp e)
 
   module _ (good : sender_ok s ≡ true) where
-    pub line_not_asked : s.plan.lines ≤ i → (w.Refused 3 ≡ (marker_from s i out).answer) × (out ≡ (marker_from s i out).out)
+    pub line_not_asked : s.plan.lines ≤ i → (Err refusal.Line ≡ (marker_from s i out).answer) × (out ≡ (marker_from s i out).out)
     unfolding marker_from outcome
     line_not_asked h = (simp (good, le-ltb i s.plan.lines h), simp (good, le-ltb i s.plan.lines h))
 
@@ -169,45 +131,33 @@ module _ (s : Sender) (i : ℕ) (out : List ℕ) where
 
 -- ---- opening
 
-pub not_opened : (p : Plan) → plan_ok p ≡ false → record { number = 1; sender = closed_sender } ≡ open_sender p
-unfolding open_sender
-not_opened p e = simp e
-
-pub is_opened : (p : Plan) → plan_ok p ≡ true → record { number = 0; sender = opened_sender p } ≡ open_sender p
+pub is_opened : (p : Plan) → plan_ok p ≡ true → Ok (opened_sender p) ≡ open_sender p
 unfolding open_sender
 is_opened p e = simp e
 
--- ---- an answer is a small number
+made : Plan → ℕ → ℕ → List ℕ → List ℕ → Sender
+made plan line countdown rounds counters = record { plan = plan; line = line; countdown = countdown; rounds = rounds; counters = counters }
 
-module _ (s : Sender) (size : ℕ) where
-  abbrev decided : Bool → SendResult
-  decided t = cond t (went s (charge_now s size)) (not_sent s (send_number s size))
+-- zeros alone are the closed state
+pub all_zeros : (s : Sender) → s.plan ≡ no_plan → (s.line ≡ 0) × (s.countdown ≡ 0) → AllOfLen (λ x. x ≡ 0) s.rounds most_lines
+    → AllOfLen (λ x. x ≡ 0) s.counters most_lines → s ≡ closed_sender
+unfolding made
+all_zeros s plan none rounds counters =
+    let made_of : made s.plan s.line s.countdown s.rounds s.counters ≡ made no_plan 0 0 zeros zeros =
+    rw (plan, none.0, none.1, are_zeros s.rounds rounds, are_zeros s.counters counters) in
+    made_of
 
-  -- the line that a packet goes to is one of sixteen
-  pub line_small : (line : ℕ) (due : Bool) → (send_of s size).answer ≡ Went line due → line < most_lines
-  unfolding send_of
-  line_small line due e = go (eqb (send_number s size) 0) refl e
-    where
-      go : (t : Bool) → eqb (send_number s size) 0 ≡ t → (decided t).answer ≡ Went line due → line < most_lines
-      go false h e = absurd (let z : ◌≡◌ {A = ℕ} 0 1 = cc in omega arith)
-      go true h e =
-          let v = valid s (number_valid s size (eqb-true (send_number s size) 0 h)) in
-          let same : s.line ≡ line = cc in
-          omega (arith, v.is_line, (in_range_lem s.plan v.plan).few_lines)
+-- ---- the line that a packet goes to is one of sixteen
 
-  -- a refusal's number is 2, 4 or 10
-  pub number_small : (k : ℕ) → (send_of s size).answer ≡ Refused k → k ≤ 10
-  unfolding send_of send_number
-  number_small k e = go (eqb (send_number s size) 0) e
-    where
-      small : (a b c : Bool) → check a 2 (check b 4 (check c 10 0)) ≤ 10
-      small true true true = omega arith
-      small true true false = omega arith
-      small true false c = omega arith
-      small false b c = omega arith
-
-      go : (t : Bool) → (decided t).answer ≡ Refused k → k ≤ 10
-      go true e = absurd (let z : ◌≡◌ {A = ℕ} 0 1 = cc in omega arith)
-      go false e =
-          let same : send_number s size ≡ k = cc in
-          omega (arith, small (sender_ok s) (in_range 1 size s.plan.max) (ltb (charge_now s size) (at s.counters s.line + quantum s.plan s.line)))
+pub line_small : (s : Sender) (size : ℕ) (line : ℕ) (due : Bool) → (send_of s size).answer ≡ went_to line due → line < most_lines
+unfolding send_of
+line_small s size line due =
+    by_checks (λ (r : SendResult). r.answer ≡ went_to line due → line < most_lines) (send_checks s size)
+    (λ passes e.
+    let v = valid s (number_valid s size (ap number_of passes)) in
+    let same : s.line ≡ line = line_of e in
+    omega (arith, v.is_line, (in_range_lem s.plan v.plan).few_lines))
+    (λ refusal fails e. absurd (let z : ◌≡◌ {A = ℕ} 0 1 = cc in omega arith))
+  where
+    line_of : {i j : ℕ} {d b : Bool} → went_to i d ≡ went_to j b → i ≡ j
+    line_of e = ap (λ (a : Sent). get_or (sent_values a) 0 0) e

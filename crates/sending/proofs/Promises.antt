@@ -1,65 +1,51 @@
 -- What the sender promises of one call: valid stays valid; and the session on paper, computed. (Of every history of calls: `bundle`.) Assumes nothing.
-use mathlib.Core.Path.{◌≡◌, refl}
+use mathlib.Core.Path.{◌≡◌, refl, ap}
 use Prim.Native.Nat.{ℕ, ◌+◌, ◌<◌}
-use mathlib.Core.Bool.{Bool, true, false, cond}
+use mathlib.Core.Bool.{Bool, true}
 use mathlib.Core.List.{List, [], ◌∷◌}
 use lib.ListN.{length, replicate}
 use native.Mathlib.Omega.{arith}
-use lib.Dec.{ltb, eqb}
-use borrow.Author.Tests.{eqb-true, ltb-true}
+use lib.Dec.{ltb}
+use borrow.Author.Tests.{ltb-true}
 use Rattle.numbers.specs.Checks.{in_range, all_below}
 use Rattle.numbers.specs.Coding.{coded, row_bytes}
-use Rattle.numbers.proofs.Checks.{check_passed}
+use Rattle.numbers.proofs.Checks.{check_passed, by_checks}
 use Rattle.plan.specs.declared.Plan.{Plan}
 use Rattle.plan.specs.Limits.{most_lines}
 use Rattle.plan.specs.Plan.{at, quantum, plan_ok, counters_ok, charge_of}
-use Rattle.plan.proofs.Laws.{in_range_lem}
 use Rattle.plan.proofs.Promises.{session}
 use Rattle.sending.specs.declared.Sender.{Sender}
-use Rattle.sending.specs.declared.Sent.TheVariants.{Went, Refused}
+use Rattle.std.specs.Prelude.{Err}
+use Rattle.numbers.specs.declared.Refusal.{Refusal}
+use Rattle.numbers.specs.Refusals.{number_of}
 use Rattle.sending.specs.declared.SendResult.{SendResult}
-use Rattle.sending.specs.Sender.{sent_values, sender_ok, open_sender, next_sender, went, not_sent, charge_now, send_number, send_of, line_marker}
-use Rattle.sending.proofs.Laws.{valid, is_valid}
+use Rattle.sending.specs.Sender.{went_to, sent_values, sender_of, sender_ok, open_sender, next_sender, charge_now, send_checks, send_of, line_marker}
+use Rattle.sending.proofs.Laws.{valid, is_valid, line_small}
 use Rattle.sending.proofs.Steps.{next_valid}
 
 -- Demand 1: a send of any state, reached or not, leaves a valid state valid.
 pub stays_valid : (s : Sender) (size : ℕ) → sender_ok s ≡ true → sender_ok (send_of s size).next ≡ true
-unfolding send_of send_number
-stays_valid s size good = go (eqb (send_number s size) 0) refl
-  where
-    go : (t : Bool) → eqb (send_number s size) 0 ≡ t
-        → sender_ok (cond {A = SendResult} t (went s (charge_now s size)) (not_sent s (send_number s size))).next ≡ true
-    go false e = good
-    go true e =
-        let n = eqb-true (send_number s size) 0 e in
-        let ranged = (check_passed (sender_ok s) 2 _ (omega arith) n).1 in
-        let covered = (check_passed (in_range 1 size s.plan.max) 4 _ (omega arith) ranged).1 in
-        let c = (check_passed (ltb (charge_now s size) (at s.counters s.line + quantum s.plan s.line)) 10 0 (omega arith) covered).0 in
-        is_valid (next_sender s (charge_now s size)) (next_valid s (valid s good) (charge_now s size) (ltb-true _ _ c))
+unfolding send_of send_checks
+stays_valid s size good =
+    by_checks (λ (r : SendResult). sender_ok r.next ≡ true) (send_checks s size)
+    (λ passes.
+    let ranged = (check_passed (sender_ok s) _ _ (ap number_of passes)).1 in
+    let covered = (check_passed (in_range 1 size s.plan.max) _ _ ranged).1 in
+    let c = (check_passed (ltb (charge_now s size) (at s.counters s.line + quantum s.plan s.line)) _ _ covered).0 in
+    is_valid (next_sender s (charge_now s size)) (next_valid s (valid s good) (charge_now s size) (ltb-true _ _ c)))
+    (λ refusal fails. good)
 
 -- A refused send hands back the state; one that went, went on a line.
 module _ (s : Sender) (size : ℕ) where
-  abbrev result : Bool → SendResult
-  result t = cond t (went s (charge_now s size)) (not_sent s (send_number s size))
-
-  pub refused_stays : (k : ℕ) → (send_of s size).answer ≡ Refused k → (send_of s size).next ≡ s
+  pub refused_stays : (refusal : Refusal) → (send_of s size).answer ≡ Err refusal → (send_of s size).next ≡ s
   unfolding send_of
-  refused_stays k = go (eqb (send_number s size) 0)
-    where
-      go : (t : Bool) → (result t).answer ≡ Refused k → (result t).next ≡ s
-      go true e = absurd (let z : ◌≡◌ {A = ℕ} 0 1 = cc in omega arith)
-      go false e = refl
+  refused_stays refusal =
+      by_checks (λ (r : SendResult). r.answer ≡ Err refusal → r.next ≡ s) (send_checks s size)
+      (λ passes e. absurd (let z : ◌≡◌ {A = ℕ} 0 1 = cc in omega arith))
+      (λ told fails e. refl)
 
-  pub sent_on_line : (line : ℕ) (due : Bool) → (send_of s size).answer ≡ Went line due → line < 16
-  unfolding send_of send_number
-  sent_on_line line due = go (eqb (send_number s size) 0) refl
-    where
-      go : (t : Bool) → eqb (send_number s size) 0 ≡ t → (result t).answer ≡ Went line due → line < 16
-      go true q e =
-          let v = valid s (check_passed (sender_ok s) 2 _ (omega arith) (eqb-true (send_number s size) 0 q)).0 in
-          let is : s.line ≡ line = cc in
-          omega (arith, v.is_line, (in_range_lem s.plan v.plan).few_lines)
-      go false q e = absurd (let z : ◌≡◌ {A = ℕ} 0 1 = cc in omega arith)
+  pub sent_on_line : (line : ℕ) (due : Bool) → (send_of s size).answer ≡ went_to line due → line < 16
+  sent_on_line = line_small s size
 
 -- ---- examples, computed
 
@@ -74,17 +60,17 @@ sends s (size ∷ sizes) = sends (send_of s size).next sizes
 
 -- the eight choices: each line, and whether markers are due
 pub choices :
-    answers (open_sender session).sender (400 ∷ 500 ∷ 300 ∷ 450 ∷ 200 ∷ 500 ∷ 500 ∷ 100 ∷ [])
+    answers (sender_of (open_sender session)) (400 ∷ 500 ∷ 300 ∷ 450 ∷ 200 ∷ 500 ∷ 500 ∷ 100 ∷ [])
     ≡ (0 ∷ 0 ∷ []) ∷ (0 ∷ 0 ∷ []) ∷ (0 ∷ 0 ∷ []) ∷ (1 ∷ 0 ∷ []) ∷ (1 ∷ 1 ∷ []) ∷ (0 ∷ 0 ∷ []) ∷ (0 ∷ 0 ∷ []) ∷ (1 ∷ 0 ∷ []) ∷ []
-unfolding open_sender send_of send_number sender_ok plan_ok counters_ok all_below next_sender charge_of
+unfolding open_sender send_of send_checks sender_ok plan_ok counters_ok all_below next_sender charge_of
 choices = refl
 
 -- the markers after packet 5
 abbrev after_five : Sender
-after_five = sends (open_sender session).sender (400 ∷ 500 ∷ 300 ∷ 450 ∷ 200 ∷ [])
+after_five = sends (sender_of (open_sender session)) (400 ∷ 500 ∷ 300 ∷ 450 ∷ 200 ∷ [])
 
 pub markers : (line_marker after_five 0 ≡ 0x00 ∷ 0x02 ∷ 0xA0 ∷ 0x06 ∷ []) × (line_marker after_five 1 ≡ 0x01 ∷ 0x02 ∷ 0xDE ∷ 0x02 ∷ [])
-unfolding open_sender send_of send_number sender_ok plan_ok counters_ok all_below next_sender charge_of row_bytes coded
+unfolding open_sender send_of send_checks sender_ok plan_ok counters_ok all_below next_sender charge_of row_bytes coded
 markers = (refl, refl)
 
 -- counter 500, length 500, q 500: moves on, counter 500; length 499: stays, counter 1
@@ -93,11 +79,11 @@ single = record { lines = 2; max = 500; interval = 1; quanta = 500 ∷ 500 ∷ r
 
 abbrev sent_first : ℕ → List ℕ
 sent_first size =
-    let s : Sender = (send_of (open_sender single).sender size).next in
+    let s : Sender = (send_of (sender_of (open_sender single)) size).next in
     s.line ∷ at s.counters 0 ∷ []
 
 pub topped_up : (sent_first 500 ≡ 1 ∷ 500 ∷ []) × (sent_first 499 ≡ 0 ∷ 1 ∷ [])
-unfolding open_sender send_of send_number sender_ok plan_ok counters_ok all_below next_sender charge_of
+unfolding open_sender send_of send_checks sender_ok plan_ok counters_ok all_below next_sender charge_of
 topped_up = (refl, refl)
 
 -- entries behind a plan's lines are zero once it is opened
@@ -105,7 +91,7 @@ abbrev untidy : Plan
 untidy = record { lines = 2; max = 500; interval = 1; quanta = 500 ∷ 500 ∷ replicate 14 7 }
 
 pub behind_the_lines :
-    (open_sender untidy).sender
+    (sender_of (open_sender untidy))
     ≡ record { plan = single; line = 0; countdown = 1; rounds = 1 ∷ 1 ∷ replicate 14 0; counters = 500 ∷ 500 ∷ replicate 14 0 }
 unfolding open_sender plan_ok all_below
 behind_the_lines = refl

@@ -15,9 +15,10 @@ use Rattle.plan.specs.Plan.{at, quantum, line_plan}
 use Rattle.plan.proofs.Laws.{line_in_range, charge_quantum}
 use Rattle.theory.specs.FirstForm.{change, first_send}
 use Rattle.sending.specs.declared.Sender.{Sender}
-use Rattle.sending.specs.Sender.{sender_ok, runs_out, completes, next_sender, not_sent, went, charge_now, send_number, send_of}
+use Rattle.sending.specs.Sender.{sender_ok, runs_out, completes, next_sender, not_sent, went, charge_now, send_checks, send_of}
 use Rattle.sending.specs.InTheory.{is_packet, in_theory, figures_of}
 use Rattle.sending.proofs.Laws.{Valid, valid, covered_went}
+use Rattle.numbers.specs.declared.Refusal.TheVariants as refusal
 
 -- ---- entries
 
@@ -110,6 +111,6 @@ packet_goes s good size packet =
     let r = from_range 1 size s.plan.max packet in
     sym (covered_went s size good r.0 r.1 (packet_covered s good size packet))
 
-pub other_refused : (s : Sender) → sender_ok s ≡ true → (size : ℕ) → is_packet s.plan size ≡ false → send_of s size ≡ not_sent s 4
-unfolding send_of send_number
-other_refused s good size e = simp (good, e)
+pub other_refused : (s : Sender) → sender_ok s ≡ true → (size : ℕ) → is_packet s.plan size ≡ false → send_of s size ≡ not_sent s refusal.Length
+unfolding send_of send_checks
+other_refused s good size e = rw (good, e) refl

@@ -1,25 +1,29 @@
 -- The sender's calls: what each answers and leaves.
-use Rattle.std.specs.Prelude.{ℕ, suc, ◌+◌, ◌-◌, Bool, ◌&&◌, cond, List, [], ◌∷◌, ltb, eqb, set, replicate}
-use Rattle.numbers.specs.Checks.{check, in_range}
+use Rattle.std.specs.Prelude.{ℕ, suc, ◌+◌, ◌-◌, Bool, ◌&&◌, cond, List, [], ◌∷◌, ltb, eqb, set, replicate, Result, Ok, Err}
+use Rattle.std.specs.Result.{result_unwrap_or}
+use Rattle.numbers.specs.Checks.{Checked, passed, check, settled, in_range}
 use Rattle.numbers.specs.Writing.{Outcome, room, outcome}
 use Rattle.plan.specs.declared.Plan.{Plan}
 use Rattle.plan.specs.Limits.{most_lines}
 use Rattle.plan.specs.Plan.{at, quantum, line_plan, charge_of, spent, counter_after, round_after, plan_ok, counters_ok, zeros, no_plan, first_entries, trimmed}
 use Rattle.marker.specs.Marker.{marker_of, marker_bytes}
 use Rattle.sending.specs.declared.Sender.{Sender}
-use Rattle.sending.specs.declared.SenderOpened.{SenderOpened}
-use Rattle.sending.specs.declared.Sent.{Sent}
-use Rattle.sending.specs.declared.Sent.TheVariants.{Went, Refused}
+use Rattle.numbers.specs.declared.Refusal.{Refusal}
+use Rattle.numbers.specs.declared.Refusal.TheVariants as refusal
+use Rattle.sending.specs.declared.Went.{Went}
 use Rattle.sending.specs.declared.SendResult.{SendResult}
 
--- the table's number that a send gives, 0 for none; and the line and whether markers are due (1 or 0)
-abbrev pub sent_number : Sent → ℕ
-sent_number (Went line due) = 0
-sent_number (Refused k) = k
+-- what a send answers: the line the packet goes to and whether markers are due, or the refusal
+abbrev pub Sent : Type 0
+Sent = Result Went Refusal
 
+abbrev pub went_to : ℕ → Bool → Sent
+went_to line due = Ok (record { line = line; due = due })
+
+-- the line, and whether markers are due (1 or 0)
 abbrev pub sent_values : Sent → List ℕ
-sent_values (Went line due) = line ∷ cond due 1 0 ∷ []
-sent_values (Refused k) = []
+sent_values (Ok went) = went.line ∷ cond went.due 1 0 ∷ []
+sent_values (Err refusal) = []
 
 -- ---- a valid state
 
@@ -44,8 +48,16 @@ opened_sender p = record {
   counters = (trimmed p).quanta;
 }
 
+-- what opening answers: the sender, or the refusal
+abbrev pub SenderOpened : Type 0
+SenderOpened = Result Sender Refusal
+
 unfoldable pub open_sender : Plan → SenderOpened
-open_sender p = cond (plan_ok p) (record { number = 0; sender = opened_sender p }) (record { number = 1; sender = closed_sender })
+open_sender p = cond (plan_ok p) (Ok (opened_sender p)) (Err refusal.Plan)
+
+-- the sender of an opening; a refusal's is the closed one
+abbrev pub sender_of : SenderOpened → Sender
+sender_of o = result_unwrap_or o closed_sender
 
 -- ---- sending: c is what the packet is charged
 
@@ -71,26 +83,26 @@ next_sender s c = record {
   counters = set s.counters s.line (counter_after (quantum s.plan s.line) (at s.counters s.line) c);
 }
 
-abbrev pub not_sent : Sender → ℕ → SendResult
-not_sent s number = record { answer = Refused number; next = s }
+abbrev pub not_sent : Sender → Refusal → SendResult
+not_sent s refusal = record { answer = Err refusal; next = s }
 
 abbrev pub went : Sender → ℕ → SendResult
-went s c = record { answer = Went s.line (is_due s c); next = next_sender s c }
+went s c = record { answer = went_to s.line (is_due s c); next = next_sender s c }
 
 -- what the packet is charged on the current line
 abbrev pub charge_now : Sender → ℕ → ℕ
 charge_now s length = charge_of (line_plan s.plan s.line) length
 
 -- 2, 4, and 10: the counter is still not positive after its quantum
-unfoldable pub send_number : Sender → ℕ → ℕ
-send_number s length =
-    check (sender_ok s) 2
-    (check (in_range 1 length s.plan.max) 4
-    (check (ltb (charge_now s length) (at s.counters s.line + quantum s.plan s.line)) 10
-    0))
+unfoldable pub send_checks : Sender → ℕ → Checked
+send_checks s length =
+    check (sender_ok s) refusal.State
+    (check (in_range 1 length s.plan.max) refusal.Length
+    (check (ltb (charge_now s length) (at s.counters s.line + quantum s.plan s.line)) refusal.Counter
+    passed))
 
 unfoldable pub send_of : Sender → ℕ → SendResult
-send_of s length = cond (eqb (send_number s length) 0) (went s (charge_now s length)) (not_sent s (send_number s length))
+send_of s length = settled (send_checks s length) (went s (charge_now s length)) (not_sent s)
 
 -- ---- a marker from a state: 2, 3, 8
 
@@ -100,4 +112,4 @@ line_marker s i = marker_bytes (marker_of i (at s.rounds i) (at s.counters i))
 
 unfoldable pub marker_from : Sender → ℕ → List ℕ → Outcome
 marker_from s i out =
-    outcome (check (sender_ok s) 2 (check (ltb i s.plan.lines) 3 (room (line_marker s i) out))) (line_marker s i) out
+    outcome (check (sender_ok s) refusal.State (check (ltb i s.plan.lines) refusal.Line (room (line_marker s i) out))) (line_marker s i) out

@@ -2,11 +2,12 @@
 // `sender`.
 #![tactic(auto)]
 
+use numbers::Refusal;
 use plan::Plan;
 
-// Entries for lines from the plan's `lines` on are ignored and kept.
+// Entries for lines from the plan's `lines` on are ignored and kept. The lines' figures are arrays side by side, as the C struct has them.
 #[repr(C)]
-#[derive(Clone, Copy)]
+#[derive(Clone, Copy, Default)]
 pub struct Sender {
     pub plan: Plan,
     pub line: u32,
@@ -15,22 +16,16 @@ pub struct Sender {
     pub counters: [u32; Plan::MOST_LINES],
 }
 
-// What opening answers: 0 and the sender, or 1 and the closed state, all zeros.
+// A packet that goes: its line, and whether markers are due behind it.
 #[derive(Clone, Copy)]
-pub struct SenderOpened {
-    pub number: u32,
-    pub sender: Sender,
+pub struct Went {
+    pub line: u32,
+    pub due: bool,
 }
 
-// What a send answers: the line the packet goes to and whether markers are due, or the number of the refusal.
-#[derive(Clone, Copy)]
-pub enum Sent {
-    Went(u32, bool),
-    Refused(u32),
-}
-
+// What a send answers, and the next state.
 #[derive(Clone, Copy)]
 pub struct SendResult {
-    pub answer: Sent,
+    pub answer: Result<Went, Refusal>,
     pub next: Sender,
 }

@@ -10,9 +10,8 @@ use lib.Dec.{eqb}
 use lib.ListN.{length, replicate, length-append}
 use Rattle.numbers.proofs.Checks.{never}
 use Rattle.sending.specs.declared.Sender.{Sender}
-use Rattle.sending.specs.declared.Sent.{Sent}
-use Rattle.sending.specs.declared.Sent.TheVariants.{Went, Refused}
-use Rattle.sending.specs.Sender.{send_of}
+use Rattle.sending.specs.Sender.{Sent, send_of}
+use Rattle.std.specs.Prelude.{Ok, Err}
 use Rattle.text.specs.Text.{line_feed, Said, numbers, bad_text, said}
 use Rattle.table.specs.declared.Stage.{Stage}
 use Rattle.table.specs.declared.Stage.TheVariants.{PlanToCome, Packets, Ended}
@@ -55,8 +54,8 @@ unfolding line_of plan_line packet_line refused_at
 not_first t line = go t.stage refl (said line)
   where
     sent : (n : ℕ) (next : Sender) (answer : Sent) → ends_line (sent_line t n next answer).table.stage 0 ≡ false
-    sent n next (Went i due) = refl
-    sent n next (Refused k) = refl
+    sent n next (Ok went) = refl
+    sent n next (Err refusal) = refl
 
     plan : (ns : List ℕ) (good : Bool) → ends_line (cond good (planned t (plan_of ns)) (refused_at t 1)).table.stage 0 ≡ false
     plan ns true = refl

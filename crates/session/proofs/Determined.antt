@@ -23,7 +23,4 @@ feed_tight κs a z z' e e' p q =
     (λ k. record { session = session k; used = used k; wrote = wrote k }, only p.3 q.3)
 
 pub close_tight : OneOutcome 1 close-kinds.ps close-kinds.r close.Post (λ κs e. e.1.0.now)
-close_tight κs a z z' e e' p q =
-    let done = only p.0 q.0 in
-    let wrote = only p.1 q.1 in
-    (λ k. record { done = done k; wrote = wrote k }, only p.2 q.2)
+close_tight κs a z z' e e' p q = (only p.0 q.0, only p.1 q.1)

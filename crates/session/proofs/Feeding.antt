@@ -1,28 +1,24 @@
--- The laws of a piece of the text, byte by byte, and of the end of the text. Assumes nothing.
+-- The laws of a piece of the text, byte by byte. Assumes nothing.
 use borrow.Author.Tests.{lt-ltb, le-ltb, eq-eqb, ne_eqb}
 use native.Mathlib.Numerals.{add-one}
 use native.Mathlib.Nat.{zero-add}
 use native.Mathlib.Omega.{arith}
-use mathlib.Core.Path.{◌≡◌, refl, ap, sym, ◌∙◌}
+use mathlib.Core.Path.{◌≡◌, refl, sym, ◌∙◌}
 use mathlib.Core.Bool.{true, false}
 use mathlib.Core.List.{List, [], ◌++◌}
 use Prim.Native.Nat.{ℕ, ◌+◌, ◌-◌, ◌≤◌, ◌<◌}
-use lib.ListN.{length, get_or, drop, set, length-append, length-drop, drop_of_length-le}
+use lib.ListN.{length, get_or, drop, length-append, drop_of_length-le}
 use lib.Seq.{drop-cons, sets, sets-eq}
 use Rattle.numbers.proofs.Laws.{sets-append}
 use Rattle.text.specs.Text.{line_feed}
 use Rattle.table.specs.declared.Table.{Table}
 use Rattle.table.specs.Table.{most_text}
 use Rattle.session.specs.declared.Session.{Session}
-use Rattle.session.specs.Session.{most_line, Fed, open_line, line_made, line_ends, keep_byte, has_ended, byte_of, ends_line, end_of, Taken, one_more, feed_of, close_of}
+use Rattle.session.specs.Session.{Fed, open_line, line_made, line_ends, keep_byte, has_ended, byte_of, Taken, one_more, feed_of}
 
 -- a text at the front of the output
 pub front : (text out : List ℕ) → length text ≤ length out → sets out 0 text ≡ text ++ drop (length text) out
 front text out h = sets-eq text out 0 (omega arith) ∙ simp zero-add
-
--- and a text that is there fits
-pub front_fits : (text out after : List ℕ) → after ≡ text ++ drop (length text) out → length after ≡ length out → length text ≤ length out
-front_fits text out after e same = omega (arith, ap length e ∙ length-append text (drop (length text) out), length-drop (length text) out)
 
 -- ---- a byte
 
@@ -36,15 +32,9 @@ module _ (s : Session) (b : ℕ) where
     unfolding byte_of
     byte_line e = simp (going, eq-eqb b line_feed e)
 
-    module _ (other : b ≡ line_feed → ⊥) where
-      pub byte_kept : s.kept < most_line
-          → byte_of s b ≡ record { session = record { table = s.table; kept = s.kept + 1; line = set s.line s.kept b }; text = [] }
-      unfolding byte_of keep_byte
-      byte_kept h = simp (going, ne_eqb b line_feed other, lt-ltb s.kept most_line h)
-
-      pub byte_over : most_line ≤ s.kept → byte_of s b ≡ record { session = record { table = s.table; kept = most_line + 1; line = s.line }; text = [] }
-      unfolding byte_of keep_byte
-      byte_over h = simp (going, ne_eqb b line_feed other, le-ltb s.kept most_line h)
+    pub byte_kept : (b ≡ line_feed → ⊥) → byte_of s b ≡ record { session = keep_byte s b; text = [] }
+    unfolding byte_of
+    byte_kept other = simp (going, ne_eqb b line_feed other)
 
 -- ---- a piece of the text: what is left of it, fed from here, makes the whole answer
 
@@ -102,19 +92,3 @@ pub left_none : (whole : Taken) (out₀ out : List ℕ) (used wrote : ℕ) (s : 
     → (s ≡ whole.session) × (used ≡ whole.used) × (wrote ≡ length whole.text) × (out ≡ whole.text ++ drop (length whole.text) out₀)
 left_none whole out₀ out used wrote s same fits l =
     (l.session, omega (arith, l.used_all), omega (arith, l.wrote_all), l.stored ∙ front whole.text out₀ (omega (arith, l.wrote_all)))
-
--- ---- the end of the text
-
-module _ (s : Session) (room : ℕ) where
-  pub close_full : room < most_text → close_of s room ≡ record { done = false; text = [] }
-  unfolding close_of
-  close_full h = simp (lt-ltb room most_text h)
-
-  module _ (h : most_text ≤ room) where
-    pub close_none : ends_line s.table.stage s.kept ≡ false → close_of s room ≡ record { done = true; text = [] }
-    unfolding close_of end_of
-    close_none e = simp (le-ltb room most_text h, e)
-
-    pub close_line : ends_line s.table.stage s.kept ≡ true → close_of s room ≡ record { done = true; text = (line_made s).text }
-    unfolding close_of end_of
-    close_line e = simp (le-ltb room most_text h, e)

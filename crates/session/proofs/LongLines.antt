@@ -4,12 +4,13 @@ use native.Mathlib.Omega.{arith}
 use mathlib.Core.Path.{◌≡◌, refl, ap, sym, ◌∙◌}
 use mathlib.Core.Bool.{Bool, true, false, ◌&&◌, cond}
 use mathlib.Core.List.{List, [], ◌∷◌, ◌++◌}
+use Rattle.std.specs.Prelude.{None}
 use Prim.Native.Nat.{ℕ, suc, ◌+◌, ◌-◌, ◌*◌, ◌≤◌, ◌<◌}
 use lib.Dec.{ltb, leb, eqb}
 use lib.ListN.{length, length-append}
 use Rattle.numbers.proofs.Checks.{never, both}
 use Rattle.text.specs.Text.{space, is_digit, most_digits, Said, numbers, bad_text, said_from, said}
-use Rattle.text.specs.Rows.{most_numbers, no_row, row_of}
+use Rattle.text.specs.Rows.{most_numbers, row_of}
 use Rattle.table.specs.declared.Stage.{Stage}
 use Rattle.table.specs.declared.Stage.TheVariants.{PlanToCome, Packets, Ended}
 use Rattle.table.specs.declared.Table.{Table}
@@ -60,12 +61,12 @@ holds_from (b ∷ rest) before k v h =
     go false t false e p q = tt
 
 -- so a row of numbers fits the longest line
-too_long : (s : Said) (size : ℕ) → most_line < size → Holds (size + 1) s → row_of s ≡ no_row
+too_long : (s : Said) (size : ℕ) → most_line < size → Holds (size + 1) s → row_of s ≡ None
 unfolding row_of
 too_long bad_text size h f = refl
 too_long (numbers ns) size h f = rw (lt-leb (length ns) most_numbers (omega arith))
 
-no_row_lem : (line : List ℕ) → most_line < length line → row_of (said line) ≡ no_row
+no_row_lem : (line : List ℕ) → most_line < length line → row_of (said line) ≡ None
 no_row_lem line h = too_long (said line) (length line) h (holds_less (said line) (length line + 1) _ (omega arith) (holds_from line [] 0 0 (omega arith)))
 
 -- what makes the same row makes the same line of table: a line that is too long makes what bad text makes

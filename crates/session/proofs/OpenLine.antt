@@ -5,11 +5,12 @@ use native.Mathlib.Numerals.{add-one}
 use native.Mathlib.Omega.{arith}
 use mathlib.Core.Path.{◌≡◌, refl, ap, ◌∙◌}
 use mathlib.Core.List.{List, [], ◌∷◌, ◌++◌}
+use Rattle.std.specs.Prelude.{None}
 use Prim.Native.Nat.{ℕ, suc, ◌+◌, ◌≤◌, ◌<◌, min}
 use lib.ListN.{length, take, length-append, length-set}
 use lib.Seq.{take-suc-set}
 use Rattle.text.specs.Text.{said}
-use Rattle.text.specs.Rows.{no_row, row_of}
+use Rattle.text.specs.Rows.{row_of}
 use Rattle.table.specs.declared.Table.{Table}
 use Rattle.table.specs.Table.{line_of}
 use Rattle.table.specs.Steps.{row_made}
@@ -19,7 +20,7 @@ use Rattle.session.specs.Session.{most_line, open_line, heard, line_made, keep_b
 use Rattle.session.proofs.LongLines.{as_bad_text}
 
 module _ (kept : ℕ) (line : List ℕ) where
-  pub heard_long : most_line < kept → no_row ≡ row_of (heard kept line)
+  pub heard_long : most_line < kept → None ≡ row_of (heard kept line)
   unfolding heard row_of
   heard_long h = simp (lt-leb kept most_line h)
 

@@ -12,7 +12,7 @@ use lib.ListN.{length, take, drop, length-append, length-take, take-append-drop}
 use lib.Seq.{take-take}
 use Rattle.numbers.specs.Checks.{all_below}
 use Rattle.plan.specs.Plan.{plan_ok, counters_ok, charge_of}
-use Rattle.sending.specs.Sender.{sender_ok, next_sender, send_number, send_of}
+use Rattle.sending.specs.Sender.{sender_ok, next_sender, send_checks, send_of}
 use Rattle.text.specs.Text.{said_from, digits_of}
 use Rattle.table.specs.Table.{most_text, row, plan_good, plan_line, packet_line, line_of}
 use Rattle.session.specs.declared.Session.{Session}
@@ -155,7 +155,7 @@ table =
 
 pub example_by_lines : table_of_text paper ≡ table
 unfolding cut table_of flatten line_of plan_line plan_good packet_line row said_from digits_of plan_ok all_below
-    send_of send_number sender_ok counters_ok next_sender charge_of
+    send_of send_checks sender_ok counters_ok next_sender charge_of
 example_by_lines = refl
 
 pub example : printed paper ≡ table

@@ -1,8 +1,8 @@
 -- The whole text, by lines: a text prints the table of its lines, however it comes in.
-use Rattle.std.specs.Prelude.{◌≡◌, true, false, cond, ℕ, ◌≤◌, ◌<◌, eqb, length, take, drop}
+use Rattle.std.specs.Prelude.{◌≡◌, None, true, false, cond, ℕ, ◌≤◌, ◌<◌, eqb, length, take, drop}
 use mathlib.Core.List.{List, [], ◌∷◌, ◌++◌, flatten}
 use Rattle.text.specs.Text.{line_feed, said}
-use Rattle.text.specs.Rows.{no_row, row_of}
+use Rattle.text.specs.Rows.{row_of}
 use Rattle.table.specs.declared.Table.{Table}
 use Rattle.table.specs.Table.{most_text, no_table, refused_at, line_of}
 use Rattle.session.specs.declared.Session.{Session}
@@ -83,4 +83,4 @@ EndsItsTable =
 abbrev pub LongLinesAreBad : Type 0
 LongLinesAreBad =
     (line : List ℕ) → most_line < length line
-    → (row_of (said line) ≡ no_row) × ((t : Table) → has_ended t.stage ≡ false → line_of t line ≡ refused_at t 1)
+    → (row_of (said line) ≡ None) × ((t : Table) → has_ended t.stage ≡ false → line_of t line ≡ refused_at t 1)

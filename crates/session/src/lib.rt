@@ -2,16 +2,17 @@
 // of any size; one line of text makes one line of table. The definitions are in specs/: Session, by bytes; Lines, by lines.
 #![tactic(auto)]
 
-ghost use Rattle.std.specs.Prelude.{◌≡◌, ◌++◌, ◌+◌, ◌≤◌, length, drop};
+ghost use Rattle.std.specs.Prelude.{◌≡◌, ◌++◌, ◌+◌, ◌≤◌, length, drop, if◌then◌else◌};
 ghost use Rattle.text.specs.Rows.{row_of};
 ghost use Rattle.table.specs.Table.{most_text};
 ghost use Rattle.table.specs.Steps.{Stepped};
-ghost use Rattle.session.specs.Session.{most_line, begun, heard, line_made, has_ended, ends_line, feed_of, close_of};
+ghost use Rattle.session.specs.Session.{most_line, begun, heard, line_made, keep_byte, has_ended, ends_line, feed_of, close_of};
 
 use table::{Stage, Step, Table};
 use text::Row;
 
-// What is kept from byte to byte: the open line, and how many bytes it has (TOO_LONG: more than are kept).
+// What is kept from byte to byte: the open line, and how many bytes it has (TOO_LONG: more than are kept). It stands in an array of fixed
+// size, with its length beside it, as there is no heap.
 #[derive(Clone, Copy)]
 pub struct Session {
     pub table: Table,
@@ -35,13 +36,6 @@ pub struct Fed {
     pub wrote: usize,
 }
 
-// What the end of the text made: whether there was room for a line of table, and how many bytes were written.
-#[derive(Clone, Copy)]
-pub struct Closed {
-    pub done: bool,
-    pub wrote: usize,
-}
-
 const TOO_LONG: usize = Session::MOST_LINE + 1;
 
 // The limits are the definitions' numbers.
@@ -52,35 +46,40 @@ fn limits()
 
 // ---- a line
 
-// The numbers of an open line; one that was too long is bad text.
-fn open_row(kept: usize, line: [u8; Session::MOST_LINE]) -> Row
-    ensures { result ≡ row_of (heard kept line) }
+// The numbers of the open line; one that was too long is bad text.
+#[tactic(auto, using(crate::proofs::OpenLine::heard_long, crate::proofs::OpenLine::heard_line, std::proofs::lemmas::Slice::between_from_start))]
+fn open_row(s: &Session) -> Option<Row>
+    ensures { result ≡ row_of (heard s.now.kept s.now.line) }
 {
-    if Session::MOST_LINE < kept {
-        return text::no_row();
-    }
-    text::read_row(&line[..kept])
+    text::read_row(s.line.get(..s.kept)?)
 }
 
 // The open line ends: one line of text makes one line of table.
-fn end_line(s: Session, out: &mut [u8], at: usize) -> Step
+#[tactic(auto, using(crate::proofs::OpenLine::row_made_lem), unfolding(table::specs::Steps::line_at))]
+fn end_line(s: &Session, out: &mut [u8], at: usize) -> Step
     requires { at + most_text ≤ length out.old }
-    ensures { Stepped (line_made s) at out.old result out.new }
+    ensures { Stepped (line_made s.now) at out.old result out.new }
 {
-    let line = s.line;
-    let row = open_row(s.kept, line);
-    let table = s.table;
-    table::line_of(table, row, out, at)
+    table::line_of(s.table, open_row(s), out, at)
+}
+
+// One more byte of the open line; past the longest line only that it is too long is kept.
+#[tactic(auto, unfolding(crate::specs::Session::keep_byte))]
+fn keep_byte(s: &mut Session, b: u8)
+    ensures { s.new ≡ keep_byte s.old b }
+{
+    if s.kept < Session::MOST_LINE {
+        s.line[s.kept] = b;
+        s.kept += 1;
+    } else {
+        s.kept = TOO_LONG;
+    }
 }
 
 fn has_ended(stage: Stage) -> bool
     ensures { result ≡ has_ended stage }
 {
-    match stage {
-        Stage::PlanToCome => false,
-        Stage::Packets => false,
-        Stage::Ended => true,
-    }
+    matches!(stage, Stage::Ended)
 }
 
 // Whether the end of the text ends a line, of which so many bytes were kept: no text at all is one blank line.
@@ -100,11 +99,10 @@ fn ends_line(stage: Stage, kept: usize) -> bool
 pub fn begin() -> Session
     ensures { result ≡ begun }
 {
-    let sender = sender::closed();
     Session {
         table: Table {
             stage: Stage::PlanToCome,
-            sender,
+            sender: sender::closed(),
             lines: 0,
             packets: 0,
         },
@@ -117,9 +115,7 @@ pub fn begin() -> Session
 pub fn ended(s: Session) -> bool
     ensures { result ≡ has_ended s.table.stage }
 {
-    let table = s.table;
-    let stage = table.stage;
-    has_ended(stage)
+    has_ended(s.table.stage)
 }
 
 // A piece of the text: bytes are used while out has room for a line of table.
@@ -129,64 +125,45 @@ pub fn feed(s: Session, bytes: &[u8], out: &mut [u8]) -> Fed
         × (out.new ≡ f.text ++ drop (length f.text) out.old) }
 {
     let mut session = s;
-    let mut used: usize = 0;
-    let mut wrote: usize = 0;
-    while used < bytes.len() {
+    let mut wrote = 0;
+    for (used, &b) in bytes.iter().enumerate() {
         if out.len() - wrote < Session::MOST_TEXT {
-            break;
+            return Fed {
+                session,
+                used,
+                wrote,
+            };
         }
-        let b = bytes[used];
-        used += 1;
-        let table = session.table;
-        let stage = table.stage;
-        if has_ended(stage) {
+        if has_ended(session.table.stage) {
             continue;
         }
         if b == b'\n' {
-            let step = end_line(session, out, wrote);
-            let next = step.table;
-            session.table = next;
+            let step = end_line(&session, out, wrote);
+            session.table = step.table;
             session.kept = 0;
             wrote = step.at;
-            continue;
+        } else {
+            keep_byte(&mut session, b);
         }
-        let kept = session.kept;
-        if kept < Session::MOST_LINE {
-            session.line[kept] = b;
-            session.kept = kept + 1;
-            continue;
-        }
-        session.kept = TOO_LONG;
     }
     Fed {
         session,
-        used,
+        used: bytes.len(),
         wrote,
     }
 }
 
-// The end of the text.
-pub fn close(s: Session, out: &mut [u8]) -> Closed
+// The end of the text: how many bytes were written, or none where out has no room for a line of table.
+#[tactic(auto, using(crate::proofs::Feeding::front), unfolding(crate::specs::Session::close_of, crate::specs::Session::end_of))]
+pub fn close(s: Session, out: &mut [u8]) -> Option<usize>
     ensures { let f = close_of s (length out.old) in
-        (result.done ≡ f.done) × (result.wrote ≡ length f.text) × (out.new ≡ f.text ++ drop (length f.text) out.old) }
+        (result ≡ (if f.done then Some (length f.text) else None)) × (out.new ≡ f.text ++ drop (length f.text) out.old) }
 {
     if out.len() < Session::MOST_TEXT {
-        return Closed {
-            done: false,
-            wrote: 0,
-        };
+        return None;
     }
-    let table = s.table;
-    let stage = table.stage;
-    if !ends_line(stage, s.kept) {
-        return Closed {
-            done: true,
-            wrote: 0,
-        };
+    if !ends_line(s.table.stage, s.kept) {
+        return Some(0);
     }
-    let step = end_line(s, out, 0);
-    Closed {
-        done: true,
-        wrote: step.at,
-    }
+    Some(end_line(&s, out, 0).at)
 }

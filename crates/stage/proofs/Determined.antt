@@ -14,9 +14,9 @@ use denote.Triple.Clauses.{AtExit}
 use denote.Triple.Entry.{Args}
 use Rattle.numbers.proofs.Tight.{only}
 use Rattle.answers.specs.Answers.{told}
-use Rattle.plan_record.specs.Record.{plan_read}
+use Rattle.plan_record.specs.Record.{plan_read, plan_of}
 use Rattle.receiving.specs.declared.Receiver.{Receiver}
-use Rattle.receiving.specs.Receiver.{open_receiver}
+use Rattle.receiving.specs.Receiver.{open_receiver, receiver_of}
 use Rattle.receiving.specs.Arriving.{Arrival, data_arrival, marker_arrival}
 use Rattle.receiving.specs.Taking.{take_of}
 use Rattle.receiving.specs.Takes.{takes_of}
@@ -28,11 +28,12 @@ use Rattle.stage.specs.contracts.stage_data as thin-data
 use Rattle.stage.specs.contracts.stage_marker as thin-marker
 use Rattle.stage.specs.contracts.stage_take as thin-take
 use Rattle.stage.specs.contracts.stage_takes as thin-takes
+use Rattle.numbers.specs.Refusals.{number_of}
 
 -- ---- opening: its number and the receiver as it leaves it
 
 abbrev OpenSays : List ℕ → ℕ → ℕ → Receiver → Type 0
-OpenSays bytes size n next = (n ≡ told (open_receiver (plan_read bytes).plan size).number) × (next ≡ (open_receiver (plan_read bytes).plan size).receiver)
+OpenSays bytes size n next = (n ≡ told (number_of (open_receiver (plan_of (plan_read bytes)) size))) × (next ≡ receiver_of (open_receiver (plan_of (plan_read bytes)) size))
 
 pub open_clause :
     {M : Type 1} {𝓤 : Ura M} (𝓛 : Logic 𝓤) (mem : Memory → SProp 𝓤) (run : Routine → Fun 𝓤) (κs : Lfts 2)
@@ -48,7 +49,7 @@ open_tight bytes size n n' next next' p q = (only p.0 q.0, only p.1 q.1)
 
 abbrev ArrivalSays : (Receiver → ℕ → List ℕ → List ℕ → Arrival) → Receiver → ℕ → List ℕ → List ℕ → ℕ → Receiver → List ℕ → Type 0
 ArrivalSays arrival r line bytes store n next end =
-    (n ≡ told (arrival r line bytes store).arrived.number) × (next ≡ (arrival r line bytes store).arrived.next) × (end ≡ (arrival r line bytes store).store)
+    (n ≡ told (number_of (arrival r line bytes store).arrived.answer)) × (next ≡ (arrival r line bytes store).arrived.next) × (end ≡ (arrival r line bytes store).store)
 
 pub data_clause :
     {M : Type 1} {𝓤 : Ura M} (𝓛 : Logic 𝓤) (mem : Memory → SProp 𝓤) (run : Routine → Fun 𝓤) (κs : Lfts 3)

@@ -1,4 +1,3 @@
-mod Small
 mod Words
 mod Determined
 mod Refusals

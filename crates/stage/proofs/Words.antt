@@ -8,76 +8,91 @@ use mathlib.Core.List.{List}
 use lib.ListN.{drop}
 use borrow.Author.Tests.{eq-eqb, ne_eqb}
 use Rattle.answers.specs.Answers.{refusal, told, told_in, line_in}
-use Rattle.answers.proofs.Laws.{refusal_read, bit_8_clear, below_256, told_back}
+use Rattle.answers.proofs.Laws.{refusal_back, bit_8_clear, below_256, answer_back}
 use Rattle.plan.specs.declared.Plan.{Plan}
 use Rattle.receiving.specs.declared.Receiver.{Receiver}
-use Rattle.receiving.specs.declared.Taken.{Taken}
-use Rattle.receiving.specs.declared.Taken.TheVariants.{Waiting, Data, Missing, Behind, Refused}
-use Rattle.receiving.specs.declared.Ended.{Ended}
+use Rattle.receiving.specs.Taking.{TakeAnswer, take_of}
+use Rattle.receiving.specs.declared.Taken.TheVariants.{Waiting, Data, Missing, Behind}
+use Rattle.std.specs.Prelude.{Ok, Err}
+use Rattle.receiving.specs.Takes.{RunEnd, takes_of}
 use Rattle.receiving.specs.declared.Ended.TheVariants as ended
 use Rattle.receiving.specs.Receiver.{open_receiver}
 use Rattle.receiving.specs.Arriving.{data_arrival, marker_arrival}
-use Rattle.receiving.specs.Taking.{take_of}
-use Rattle.receiving.specs.Takes.{takes_of}
 use Rattle.taking.specs.Words.{taken_word, ended_word}
 use Rattle.taking.proofs.Words.{Told, EndTold, take_told, run_stops}
 use Rattle.stage.specs.Exports.{stage_run, kind_in, value_in, read_taken, read_ended}
-use Rattle.stage.proofs.Small.{open_small, data_small, marker_small}
+use Rattle.numbers.specs.Refusals.{number, number_of}
+use Rattle.numbers.specs.declared.Refusal.{Refusal}
 
 -- ---- in figures, as include/stage.h has them
 
-pub take_figures : (line n k : ℕ)
-    → (taken_word (Data line n) ≡ line + 512 * n) × (taken_word (Missing line n) ≡ 16 + line + 512 * n) × (taken_word (Behind line) ≡ 32 + line)
-    × (taken_word (Waiting line) ≡ 48 + line) × (taken_word (Refused k) ≡ 256 + k)
+pub take_figures : (line n : ℕ) (k : Refusal)
+    → (taken_word (Ok (Data line n)) ≡ line + 512 * n) × (taken_word (Ok (Missing line n)) ≡ 16 + line + 512 * n) × (taken_word (Ok (Behind line)) ≡ 32 + line)
+    × (taken_word (Ok (Waiting line)) ≡ 48 + line) × (taken_word (Err k) ≡ 256 + number k)
 take_figures line n k = (refl, refl, refl, refl, refl)
 
-pub end_figures : (line k : ℕ) → (ended_word ended.Full ≡ 64) × (ended_word (ended.Waiting line) ≡ 48 + line) × (ended_word (ended.Refused k) ≡ 256 + k)
+pub end_figures : (line : ℕ) (k : Refusal) → (ended_word (Ok ended.Full) ≡ 64) × (ended_word (Ok (ended.Waiting line)) ≡ 48 + line) × (ended_word (Err k) ≡ 256 + number k)
 end_figures line k = (refl, refl, refl)
 
 -- ---- openings and arrivals
 
-pub open_number_reads_back : (p : Plan) (size : ℕ) → told_in (told (open_receiver p size).number) ≡ (open_receiver p size).number
-open_number_reads_back p size = told_back _ (open_small p size)
+pub open_number_reads_back : (p : Plan) (size : ℕ) → told_in (told (number_of (open_receiver p size))) ≡ number_of (open_receiver p size)
+open_number_reads_back p size = answer_back (open_receiver p size)
 
 module _ (r : Receiver) (i : ℕ) (b store : List ℕ) where
-  pub data_number_reads_back : told_in (told (data_arrival r i b store).arrived.number) ≡ (data_arrival r i b store).arrived.number
-  data_number_reads_back = told_back _ (data_small r i b store)
+  pub data_number_reads_back : told_in (told (number_of (data_arrival r i b store).arrived.answer)) ≡ number_of (data_arrival r i b store).arrived.answer
+  data_number_reads_back = answer_back (data_arrival r i b store).arrived.answer
 
-  pub marker_number_reads_back : told_in (told (marker_arrival r i b store).arrived.number) ≡ (marker_arrival r i b store).arrived.number
-  marker_number_reads_back = told_back _ (marker_small r i b store)
+  pub marker_number_reads_back : told_in (told (number_of (marker_arrival r i b store).arrived.answer)) ≡ number_of (marker_arrival r i b store).arrived.answer
+  marker_number_reads_back = answer_back (marker_arrival r i b store).arrived.answer
 
 -- ---- takes
 
-told_back_taken : (t : Taken) → Told t → read_taken (taken_word t) ≡ t
+abbrev waiting : ℕ → TakeAnswer
+waiting line = Ok (Waiting line)
+
+abbrev packet : ℕ → ℕ → TakeAnswer
+packet line n = Ok (Data line n)
+
+abbrev marked : ℕ → ℕ → TakeAnswer
+marked line n = Ok (Missing line n)
+
+abbrev behind : ℕ → TakeAnswer
+behind line = Ok (Behind line)
+
+told_back_taken : (t : TakeAnswer) → Told t → read_taken (taken_word t) ≡ t
 unfolding read_taken
-told_back_taken (Waiting line) h =
-    let w = taken_word (Waiting line) in
+told_back_taken (Ok (Waiting line)) h =
+    let w = taken_word (Ok (Waiting line)) in
     rw (below_256 w (omega arith), ne_eqb (kind_in w) 0 (omega arith), ne_eqb (kind_in w) 1 (omega arith), ne_eqb (kind_in w) 2 (omega arith))
-    (ap Waiting (omega arith))
-told_back_taken (Data line n) h =
-    let w = taken_word (Data line n) in
-    rw (bit_8_clear w line n (omega arith) (omega arith), eq-eqb (kind_in w) 0 (omega arith)) (ap₂ Data (omega arith) (omega arith))
-told_back_taken (Missing line missing) h =
-    let w = taken_word (Missing line missing) in
+    (ap waiting (omega arith))
+told_back_taken (Ok (Data line n)) h =
+    let w = taken_word (Ok (Data line n)) in
+    rw (bit_8_clear w line n (omega arith) (omega arith), eq-eqb (kind_in w) 0 (omega arith)) (ap₂ packet (omega arith) (omega arith))
+told_back_taken (Ok (Missing line missing)) h =
+    let w = taken_word (Ok (Missing line missing)) in
     rw (bit_8_clear w (16 + line) missing (omega arith) (omega arith), ne_eqb (kind_in w) 0 (omega arith), eq-eqb (kind_in w) 1 (omega arith))
-    (ap₂ Missing (omega arith) (omega arith))
-told_back_taken (Behind line) h =
-    let w = taken_word (Behind line) in
+    (ap₂ marked (omega arith) (omega arith))
+told_back_taken (Ok (Behind line)) h =
+    let w = taken_word (Ok (Behind line)) in
     rw (below_256 w (omega arith), ne_eqb (kind_in w) 0 (omega arith), ne_eqb (kind_in w) 1 (omega arith), eq-eqb (kind_in w) 2 (omega arith))
-    (ap Behind (omega arith))
-told_back_taken (Refused k) h = let read = refusal_read k (omega arith) in rw read.0 (ap Refused read.1)
+    (ap behind (omega arith))
+told_back_taken (Err k) h = rw (refusal_back k).0 (ap Err (refusal_back k).1)
 
 -- what C reads from a take's word is the take's answer
 pub reads_back : (r : Receiver) (store out : List ℕ) → read_taken (taken_word (take_of r store out).result.answer) ≡ (take_of r store out).result.answer
 reads_back r store out = told_back_taken (take_of r store out).result.answer (take_told r store out)
 
-end_back : (t : Ended) → EndTold t → read_ended (ended_word t) ≡ t
+abbrev waited : ℕ → RunEnd
+waited line = Ok (ended.Waiting line)
+
+end_back : (t : RunEnd) → EndTold t → read_ended (ended_word t) ≡ t
 unfolding read_ended
-end_back ended.Full h = rw (below_256 (ended_word ended.Full) (omega arith)) refl
-end_back (ended.Waiting line) h =
-    let w = ended_word (ended.Waiting line) in
-    rw (below_256 w (omega arith), ne_eqb (kind_in w) 4 (omega arith)) (ap ended.Waiting (omega arith))
-end_back (ended.Refused k) h = let read = refusal_read k (omega arith) in rw read.0 (ap ended.Refused read.1)
+end_back (Ok ended.Full) h = rw (below_256 (ended_word (Ok ended.Full)) (omega arith)) refl
+end_back (Ok (ended.Waiting line)) h =
+    let w = ended_word (Ok (ended.Waiting line)) in
+    rw (below_256 w (omega arith), ne_eqb (kind_in w) 4 (omega arith)) (ap waited (omega arith))
+end_back (Err k) h = rw (refusal_back k).0 (ap Err (refusal_back k).1)
 
 module _ (r : Receiver) (store out log : List ℕ) where
   -- what C reads from `why` is how the run ended; and the takes and their bytes are the run's
@@ -90,7 +105,7 @@ module _ (r : Receiver) (store out log : List ℕ) where
   -- unless the log is full, `why` is the word that a take of the receiver that is left, into the output behind the bytes written, would answer
   pub why_is_next :
       let run = takes_of r store out log in
-      (run.result.ended ≡ ended.Full)
+      (run.result.ended ≡ Ok ended.Full)
       ⊎ ((stage_run run.result).why ≡ taken_word (take_of run.result.next store (drop run.result.bytes run.out)).result.answer)
   why_is_next = (run_stops r store out log).word
 

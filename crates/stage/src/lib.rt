@@ -4,114 +4,66 @@
 #![tactic(auto)]
 
 ghost use Rattle.std.specs.Prelude.{◌≡◌};
+ghost use Rattle.numbers.specs.Refusals.{number_of};
 ghost use Rattle.answers.specs.Answers.{told};
-ghost use Rattle.plan_record.specs.Record.{plan_read};
-ghost use Rattle.receiving.specs.Receiver.{open_receiver};
+ghost use Rattle.plan_record.specs.Record.{plan_of, plan_read};
+ghost use Rattle.receiving.specs.Receiver.{receiver_of, open_receiver};
 ghost use Rattle.receiving.specs.Arriving.{data_arrival, marker_arrival};
 ghost use Rattle.receiving.specs.Taking.{take_of};
 ghost use Rattle.receiving.specs.Takes.{takes_of};
 ghost use Rattle.taking.specs.Words.{taken_word};
-ghost use Rattle.stage.specs.Exports.{open_from, data_told, marker_told, coded_take, stage_run, coded_run};
+ghost use Rattle.stage.specs.Exports.{stage_run};
 
-use receiving::{Arrived, Receiver, ReceiverOpened};
-
-// A receiver opened on the plan of a record. A record that is refused reads as an all-zero plan, on which no receiver opens.
-fn open_from(bytes: &[u8], size: u32) -> ReceiverOpened
-    ensures { result ≡ open_from bytes.now size }
-{
-    let read = plan_record::read_plan(bytes);
-    let p = read.plan;
-    let opened = receiver::open(p, size);
-    let receiver = opened.receiver;
-    let number = answers::told(opened.number);
-    ReceiverOpened { number, receiver }
-}
+use receiving::Receiver;
 
 // Opens the receiver that C holds, on the plan of a record, with `size` bytes of store for each line: 0, or 256 plus 1 and the closed
-// state.
+// state. A record that is refused reads as an all-zero plan, on which no receiver opens.
 #[unsafe(no_mangle)]
 pub extern "C" fn stage_open(r: &mut Receiver, bytes: &[u8], size: u32) -> u32
-    ensures { (result ≡ told (open_receiver (plan_read bytes.now).plan size).number)
-        × (r.new ≡ (open_receiver (plan_read bytes.now).plan size).receiver) }
+    ensures { (result ≡ told (number_of (open_receiver (plan_of (plan_read bytes.now)) size)))
+        × (r.new ≡ receiver_of (open_receiver (plan_of (plan_read bytes.now)) size)) }
 {
-    let o = open_from(bytes, size);
-    *r = o.receiver;
-    o.number
-}
-
-fn told_data(r: Receiver, line: u32, bytes: &[u8], store: &mut [u8]) -> Arrived
-    ensures { (result ≡ (data_told r line bytes.now store.old).arrived)
-        × (store.new ≡ (data_told r line bytes.now store.old).store) }
-{
-    let a = receiver::data_arrives(r, line, bytes, store);
-    let next = a.next;
-    let number = answers::told(a.number);
-    Arrived { number, next }
+    let p = plan_record::read_plan(bytes).unwrap_or(plan::no_plan());
+    let opened = receiver::open(p, size);
+    *r = opened.unwrap_or(receiver::closed());
+    answers::told(numbers::number_of(opened))
 }
 
 // Data that came on a line: 0 where it is stored, or 256 plus the number of the refusal.
 #[unsafe(no_mangle)]
 pub extern "C" fn stage_data(r: &mut Receiver, line: u32, bytes: &[u8], store: &mut [u8]) -> u32
-    ensures { (result ≡ told (data_arrival r.old line bytes.now store.old).arrived.number)
+    ensures { (result ≡ told (number_of (data_arrival r.old line bytes.now store.old).arrived.answer))
         × (r.new ≡ (data_arrival r.old line bytes.now store.old).arrived.next)
         × (store.new ≡ (data_arrival r.old line bytes.now store.old).store) }
 {
-    let a = told_data(*r, line, bytes, store);
-    *r = a.next;
-    a.number
-}
-
-fn told_marker(r: Receiver, line: u32, bytes: &[u8], store: &mut [u8]) -> Arrived
-    ensures { (result ≡ (marker_told r line bytes.now store.old).arrived)
-        × (store.new ≡ (marker_told r line bytes.now store.old).store) }
-{
-    let a = receiver::marker_arrives(r, line, bytes, store);
-    let next = a.next;
-    let number = answers::told(a.number);
-    Arrived { number, next }
+    let arrived = receiver::data_arrives(*r, line, bytes, store);
+    *r = arrived.next;
+    answers::told(numbers::number_of(arrived.answer))
 }
 
 // A marker that came on a line: 0 where it is stored, or 256 plus the number of the refusal.
 #[unsafe(no_mangle)]
 pub extern "C" fn stage_marker(r: &mut Receiver, line: u32, bytes: &[u8], store: &mut [u8]) -> u32
-    ensures { (result ≡ told (marker_arrival r.old line bytes.now store.old).arrived.number)
+    ensures { (result ≡ told (number_of (marker_arrival r.old line bytes.now store.old).arrived.answer))
         × (r.new ≡ (marker_arrival r.old line bytes.now store.old).arrived.next)
         × (store.new ≡ (marker_arrival r.old line bytes.now store.old).store) }
 {
-    let a = told_marker(*r, line, bytes, store);
-    *r = a.next;
-    a.number
-}
-
-// A take's word, and the next state.
-#[derive(Clone, Copy)]
-struct CodedTake {
-    word: u64,
-    next: Receiver,
-}
-
-fn coded_take(r: Receiver, store: &[u8], out: &mut [u8]) -> CodedTake
-    ensures { (result ≡ coded_take r store.now out.old) × (out.new ≡ (take_of r store.now out.old).out) }
-{
-    let t = taking::take(r, store, out);
-    let answer = t.answer;
-    let next = t.next;
-    CodedTake {
-        word: taking::word_of(answer),
-        next,
-    }
+    let arrived = receiver::marker_arrives(*r, line, bytes, store);
+    *r = arrived.next;
+    answers::told(numbers::number_of(arrived.answer))
 }
 
 // The thin take: it updates the receiver that C holds, and answers the take's word.
 #[unsafe(no_mangle)]
+#[tactic(auto, using(taking::proofs::Words::take_fits))]
 pub extern "C" fn stage_take(r: &mut Receiver, store: &[u8], out: &mut [u8]) -> u64
     ensures { (result ≡ taken_word (take_of r.old store.now out.old).result.answer)
         × (r.new ≡ (take_of r.old store.now out.old).result.next)
         × (out.new ≡ (take_of r.old store.now out.old).out) }
 {
-    let t = coded_take(*r, store, out);
-    *r = t.next;
-    t.word
+    let taken = taking::take(*r, store, out);
+    *r = taken.next;
+    taking::word_of(taken.answer)
 }
 
 // What a run of takes answers to C: a word that says why it ended, which is that of the take that stopped it unless the log is full; how many takes
@@ -122,29 +74,6 @@ pub struct StageRun {
     pub why: u64,
     pub taken: usize,
     pub bytes: usize,
-}
-
-// That, and the next state.
-#[derive(Clone, Copy)]
-struct CodedRun {
-    run: StageRun,
-    next: Receiver,
-}
-
-fn coded_run(r: Receiver, store: &[u8], out: &mut [u8], log: &mut [u64]) -> CodedRun
-    ensures { (result ≡ coded_run (takes_of r store.now out.old log.old).result)
-        × (out.new ≡ (takes_of r store.now out.old log.old).out)
-        × (log.new ≡ (takes_of r store.now out.old log.old).log) }
-{
-    let t = taking::take_run(r, store, out, log);
-    let ended = t.ended;
-    let next = t.next;
-    let run = StageRun {
-        why: taking::ended_word(ended),
-        taken: t.taken,
-        bytes: t.bytes,
-    };
-    CodedRun { run, next }
 }
 
 // A run of takes, until one waits or is refused, or the log is full. Their words are in the log, and their packets one behind another at the front
@@ -161,7 +90,11 @@ pub extern "C" fn stage_takes(
         × (out.new ≡ (takes_of r.old store.now out.old log.old).out)
         × (log.new ≡ (takes_of r.old store.now out.old log.old).log) }
 {
-    let t = coded_run(*r, store, out, log);
-    *r = t.next;
-    t.run
+    let run = taking::take_run(*r, store, out, log);
+    *r = run.next;
+    StageRun {
+        why: taking::ended_word(run.ended),
+        taken: run.taken,
+        bytes: run.bytes,
+    }
 }

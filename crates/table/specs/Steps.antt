@@ -1,5 +1,5 @@
 -- What the row of numbers that a line says makes, and what that leaves in an output.
-use Rattle.std.specs.Prelude.{◌≡◌, ℕ, ◌+◌, ◌≤◌, Bool, cond, ◌&&◌, List, [], map, length, drop, ◌==◌, nat_le, slice_index}
+use Rattle.std.specs.Prelude.{◌≡◌, Option, Some, None, ℕ, ◌+◌, ◌≤◌, Bool, cond, ◌&&◌, List, [], map, length, drop, ◌==◌, nat_le, slice_index}
 use Rattle.std.proofs.lemmas.List.Edits.{sets}
 use Rattle.plan.specs.declared.Plan.{Plan}
 use Rattle.plan.specs.Plan.{plan_ok}
@@ -8,7 +8,10 @@ use Rattle.table.specs.declared.Stage.{Stage}
 use Rattle.table.specs.declared.Stage.TheVariants.{PlanToCome, Packets, Ended}
 use Rattle.table.specs.declared.Table.{Table}
 use Rattle.table.specs.declared.Step.{Step}
-use Rattle.table.specs.Table.{most_text, Made, refused_at, narrow, planned, packet_sent}
+use Rattle.table.specs.declared.Entry.{Entry}
+use Rattle.table.specs.declared.Entry.TheVariants.{Nothing, Header, Packet, Refused}
+use Rattle.table.specs.Table.{most_text, Made, header, row, refused_text, refused_at, narrow, planned, packet_sent}
+use Rattle.numbers.specs.Refusals.{number}
 
 -- N, Max, K and the quanta of a row
 abbrev pub plan_from : List ℕ → Plan
@@ -20,25 +23,35 @@ plan_from values = record {
 }
 
 abbrev pub plan_fits : Row → Bool
-plan_fits row = row.good && row.count == 3 + (plan_from row.values).lines && plan_ok (plan_from row.values)
+plan_fits row = row.count == 3 + (plan_from row.values).lines && plan_ok (plan_from row.values)
 
 unfoldable pub plan_made : Table → Row → Made
 plan_made t row = cond (plan_fits row) (planned t (plan_from row.values)) (refused_at t 1)
 
-abbrev pub packet_fits : Row → Bool
-packet_fits row = row.good && row.count == 1
-
 unfoldable pub packet_made : Table → Row → Made
-packet_made t row = cond (packet_fits row) (packet_sent t (slice_index row.values 0)) (refused_at t 1)
+packet_made t row = cond (row.count == 1) (packet_sent t (slice_index row.values 0)) (refused_at t 1)
 
--- by the stage
-abbrev pub made_at : Stage → Table → Row → Made
-made_at PlanToCome t row = plan_made t row
-made_at Packets t row = packet_made t row
+-- by the stage; no row of numbers is bad text
+abbrev pub made_at : Stage → Table → Option Row → Made
 made_at Ended t row = record { table = t; text = [] }
+made_at PlanToCome t None = refused_at t 1
+made_at PlanToCome t (Some row) = plan_made t row
+made_at Packets t None = refused_at t 1
+made_at Packets t (Some row) = packet_made t row
 
-unfoldable pub row_made : Table → Row → Made
+unfoldable pub row_made : Table → Option Row → Made
 row_made t row = made_at t.stage t row
+
+-- the text of what a line of table says
+abbrev pub entry_text : Entry → List ℕ
+entry_text Nothing = []
+entry_text Header = header
+entry_text (Packet p) = row p.number p.size p.line p.round p.counter p.due
+entry_text (Refused refusal line) = refused_text (number refusal) line
+
+-- what the functions behind `line_of` ensure: the table and the text, which is never longer than there is room for
+abbrev pub Makes : Made → Table × Entry → Type 0
+Makes m r = (r.0 ≡ m.table) × (entry_text r.1 ≡ m.text) × (length m.text ≤ most_text)
 
 -- the next table, the place after the line's text, and the output as it leaves it
 pub record Line : Type 0 where

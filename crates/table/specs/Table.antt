@@ -1,12 +1,11 @@
 -- One line of text in, one line of table out.
-use Rattle.std.specs.Prelude.{ℕ, ◌+◌, ◌%◌, ◌^◌, min, Bool, cond, ◌&&◌, List, [], ◌∷◌, ◌++◌, map, length, take, drop, replicate, ◌==◌, slice_index}
+use Rattle.std.specs.Prelude.{ℕ, ◌+◌, ◌%◌, ◌^◌, min, Bool, cond, ◌&&◌, List, [], ◌∷◌, ◌++◌, map, length, take, drop, replicate, ◌==◌, slice_index, Ok, Err}
 use Rattle.plan.specs.declared.Plan.{Plan}
 use Rattle.plan.specs.Limits.{most_lines}
 use Rattle.plan.specs.Plan.{at, plan_ok}
 use Rattle.sending.specs.declared.Sender.{Sender}
-use Rattle.sending.specs.declared.Sent.{Sent}
-use Rattle.sending.specs.declared.Sent.TheVariants.{Went, Refused}
-use Rattle.sending.specs.Sender.{closed_sender, opened_sender, send_of}
+use Rattle.numbers.specs.Refusals.{number}
+use Rattle.sending.specs.Sender.{Sent, closed_sender, opened_sender, send_of}
 use Rattle.text.specs.Text.{space, line_feed, Said, numbers, bad_text, said, decimal}
 use Rattle.text.specs.Printing.{spaced}
 use Rattle.table.specs.declared.Stage.{Stage}
@@ -87,10 +86,10 @@ plan_line t (numbers ns) = cond (plan_good ns) (planned t (plan_of ns)) (refused
 
 -- a packet of n bytes, of which a send answered so and left this sender
 abbrev pub sent_line : Table → ℕ → Sender → Sent → Made
-sent_line t n after (Refused number) = refused_at t number
-sent_line t n after (Went line due) = record {
+sent_line t n after (Err refusal) = refused_at t (number refusal)
+sent_line t n after (Ok went) = record {
   table = record { stage = Packets; sender = after; lines = next t.lines; packets = next t.packets };
-  text = row (next t.packets) n line (at t.sender.rounds line) (at t.sender.counters line) due;
+  text = row (next t.packets) n went.line (at t.sender.rounds went.line) (at t.sender.counters went.line) went.due;
 }
 
 -- a packet of n bytes is sent

@@ -3,15 +3,17 @@
 #![tactic(auto)]
 
 ghost use Rattle.std.specs.Prelude.{◌≡◌, ◌+◌, ◌<◌, ◌≤◌, length, if◌then◌else◌, slice_index};
+ghost use Rattle.numbers.specs.Refusals.{number};
 ghost use Rattle.plan.specs.Limits.{most_lines, most_max, most_quantum};
-ghost use Rattle.sending.specs.declared.Sent.TheVariants.{Went};
 ghost use Rattle.text.specs.Printing.{Put};
 ghost use Rattle.table.specs.Table as spec;
 ghost use Rattle.table.specs.Table.{most_text, row, refused_text, refused_at, sent_line};
-ghost use Rattle.table.specs.Steps.{plan_from, plan_made, packet_made, row_made, Stepped, SteppedWhereRoom};
+ghost use Rattle.table.specs.Steps.{entry_text, Makes, plan_from, plan_made, packet_made, row_made, SteppedWhereRoom};
 
+use numbers::Refusal;
 use plan::Plan;
-use sending::{Sender, Sent};
+use sending::{Sender, Went};
+use std::array;
 use text::Row;
 
 // The first line is the plan, every other a packet, and a refusal ends the table.
@@ -54,6 +56,26 @@ fn limits()
     ensures most_numbers { Row.MOST_NUMBERS ≡ PLAN_NUMBERS }
 {}
 
+// What a packet's row says: the figures of its line are those before the send.
+#[derive(Clone, Copy)]
+struct PacketRow {
+    number: u64,
+    size: u64,
+    line: u32,
+    round: u32,
+    counter: u32,
+    due: bool,
+}
+
+// What a line of table says: the plan's header, a packet's row, the number of a refusal and its line of text, or nothing behind a refusal.
+#[derive(Clone, Copy)]
+enum Entry {
+    Nothing,
+    Header,
+    Packet(PacketRow),
+    Refused(Refusal, u64),
+}
+
 // ---- the text of a line of table
 
 // M where markers are due, else a dash.
@@ -64,176 +86,163 @@ fn mark(due: bool) -> u8
 }
 
 // Writes a packet's row.
-fn put_row(
-    number: u64,
-    size: u64,
-    line: u64,
-    round: u64,
-    counter: u64,
-    due: bool,
-    out: &mut [u8],
-    at: usize,
-) -> usize
-    requires { at + length (row number size line round counter due) ≤ length out.old }
-    ensures { Put (row number size line round counter due) at out.old result out.new }
+fn put_row(p: PacketRow, out: &mut [u8], at: usize) -> usize
+    requires { at + length (row p.number p.size p.line p.round p.counter p.due) ≤ length out.old }
+    ensures { Put (row p.number p.size p.line p.round p.counter p.due) at out.old result out.new }
 {
-    let after_number = text::put_spaced(number, out, at);
-    let after_size = text::put_spaced(size, out, after_number);
-    let after_line = text::put_spaced(line, out, after_size);
-    let after_round = text::put_spaced(round, out, after_line);
-    let after_counter = text::put_spaced(counter, out, after_round);
-    let last = [mark(due), b'\n'];
-    text::put_text(&last, out, after_counter)
+    let after_number = text::put_spaced(p.number, out, at);
+    let after_size = text::put_spaced(p.size, out, after_number);
+    let after_line = text::put_spaced(p.line as u64, out, after_size);
+    let after_round = text::put_spaced(p.round as u64, out, after_line);
+    let after_counter = text::put_spaced(p.counter as u64, out, after_round);
+    text::put_text(&[mark(p.due), b'\n'], out, after_counter)
 }
 
 // Writes that a line was refused.
-fn put_refused(number: u64, line: u64, out: &mut [u8], at: usize) -> usize
+fn put_refused(number: u32, line: u64, out: &mut [u8], at: usize) -> usize
     requires { at + length (refused_text number line) ≤ length out.old }
     ensures { Put (refused_text number line) at out.old result out.new }
 {
     let after_word = text::put_text(b"refused ", out, at);
-    let after_number = text::put_spaced(number, out, after_word);
+    let after_number = text::put_spaced(number as u64, out, after_word);
     let after_line = text::put_decimal(line, out, after_number);
     text::put_text(b"\n", out, after_line)
 }
 
-// ---- a line
+// Writes a line of table.
+#[tactic(auto, unfolding(text::specs::Printing::placed))]
+fn put(entry: Entry, out: &mut [u8], at: usize) -> usize
+    requires { at + length (entry_text entry) ≤ length out.old }
+    ensures { Put (entry_text entry) at out.old result out.new }
+{
+    match entry {
+        Entry::Nothing => at,
+        Entry::Header => text::put_text(b"no len ch round before due\n", out, at),
+        Entry::Packet(p) => put_row(p, out, at),
+        Entry::Refused(refusal, line) => put_refused(refusal.number(), line, out, at),
+    }
+}
+
+// ---- what a line makes: the next table, and what its line of table says
 
 // The number, or the largest of 32 bits.
 fn narrow(v: u64) -> u32
     ensures { result ≡ spec.narrow v }
 {
-    if v <= 0xffff_ffff {
-        v as u32
-    } else {
-        0xffff_ffff
-    }
+    u32::try_from(v).unwrap_or(u32::MAX)
 }
 
 // The plan that the numbers of a row are.
 fn plan_from(values: [u64; Row::MOST_NUMBERS]) -> Plan
     ensures { result ≡ plan_from values }
 {
-    let mut quanta = [0u32; Plan::MOST_LINES];
-    let mut i: usize = 0;
-    while i < Plan::MOST_LINES {
-        quanta[i] = narrow(values[BEFORE_QUANTA + i]);
-        i += 1;
-    }
-    let lines = narrow(values[0]);
-    let max = narrow(values[1]);
-    let interval = narrow(values[2]);
     Plan {
-        lines,
-        max,
-        interval,
-        quanta,
+        lines: narrow(values[0]),
+        max: narrow(values[1]),
+        interval: narrow(values[2]),
+        quanta: array::from_fn(|i| narrow(values[BEFORE_QUANTA + i])),
     }
 }
 
-fn refuse(t: Table, number: u32, out: &mut [u8], at: usize) -> Step
-    requires { at + most_text ≤ length out.old }
-    ensures { Stepped (refused_at t number) at out.old result out.new }
+#[tactic(auto, using(crate::proofs::Printing::refused_size), unfolding(crate::specs::Table::refused_at))]
+fn refuse(t: Table, refusal: Refusal) -> (Table, Entry)
+    ensures { Makes (refused_at t (number refusal)) result }
 {
-    let lines = std::num::wrapping_add_u64(t.lines, 1);
-    let end = put_refused(number as u64, lines, out, at);
-    let sender = t.sender;
-    Step {
-        table: Table {
-            stage: Stage::Ended,
-            sender,
-            lines,
-            packets: t.packets,
-        },
-        at: end,
-    }
+    let lines = t.lines.wrapping_add(1);
+    let table = Table {
+        stage: Stage::Ended,
+        lines,
+        ..t
+    };
+    (table, Entry::Refused(refusal, lines))
 }
 
 // The plan is opened, and the table begins with its header.
-fn plan_line(t: Table, row: Row, out: &mut [u8], at: usize) -> Step
-    requires { at + most_text ≤ length out.old }
-    ensures { Stepped (plan_made t row) at out.old result out.new }
+#[tactic(auto, unfolding(crate::specs::Steps::plan_made, sending::specs::Sender::open_sender))]
+fn plan_line(t: Table, row: Row) -> (Table, Entry)
+    ensures { Makes (plan_made t row) result }
 {
-    let values = row.values;
-    let p = plan_from(values);
-    let opened = sender::open(p);
-    let fits = row.good & (row.count == BEFORE_QUANTA + p.lines as usize) & (opened.number == 0);
-    if !fits {
-        return refuse(t, 1, out, at);
+    let p = plan_from(row.values);
+    let Ok(sender) = sender::open(p) else {
+        return refuse(t, Refusal::Plan);
+    };
+    if row.count != BEFORE_QUANTA + p.lines as usize {
+        return refuse(t, Refusal::Plan);
     }
-    let end = text::put_text(b"no len ch round before due\n", out, at);
-    let sender = opened.sender;
-    Step {
-        table: Table {
-            stage: Stage::Packets,
-            sender,
-            lines: std::num::wrapping_add_u64(t.lines, 1),
-            packets: t.packets,
-        },
-        at: end,
-    }
+    let table = Table {
+        stage: Stage::Packets,
+        sender,
+        lines: t.lines.wrapping_add(1),
+        ..t
+    };
+    (table, Entry::Header)
 }
 
 // A packet of n bytes went to a line: its row has the figures before the send.
-fn went(t: Table, n: u64, next: Sender, line: u32, due: bool, out: &mut [u8], at: usize) -> Step
-    requires { (at + most_text ≤ length out.old) × (line < most_lines) × (n ≤ most_max) × (slice_index t.sender.counters line ≤ most_quantum) }
-    ensures { Stepped (sent_line t n next (Went line due)) at out.old result out.new }
+fn went(t: Table, n: u64, next: Sender, to: Went) -> (Table, Entry)
+    requires { (to.line < most_lines) × (n ≤ most_max) × (slice_index t.sender.counters to.line ≤ most_quantum) }
+    ensures { Makes (sent_line t n next (Ok to)) result }
 {
-    let sender = t.sender;
-    let rounds = sender.rounds;
-    let counters = sender.counters;
+    let Went { line, due } = to;
     let i = line as usize;
-    let round = rounds[i] as u64;
-    let counter = counters[i] as u64;
-    let packets = std::num::wrapping_add_u64(t.packets, 1);
-    let end = put_row(packets, n, line as u64, round, counter, due, out, at);
-    Step {
-        table: Table {
-            stage: Stage::Packets,
-            sender: next,
-            lines: std::num::wrapping_add_u64(t.lines, 1),
-            packets,
-        },
-        at: end,
-    }
+    let packet = PacketRow {
+        number: t.packets.wrapping_add(1),
+        size: n,
+        line,
+        round: t.sender.rounds[i],
+        counter: t.sender.counters[i],
+        due,
+    };
+    let table = Table {
+        stage: Stage::Packets,
+        sender: next,
+        lines: t.lines.wrapping_add(1),
+        packets: packet.number,
+    };
+    (table, Entry::Packet(packet))
 }
 
 // A packet is sent.
-fn packet_line(t: Table, row: Row, out: &mut [u8], at: usize) -> Step
-    requires { at + most_text ≤ length out.old }
-    ensures { Stepped (packet_made t row) at out.old result out.new }
+#[tactic(auto, unfolding(crate::specs::Steps::packet_made))]
+fn packet_line(t: Table, row: Row) -> (Table, Entry)
+    ensures { Makes (packet_made t row) result }
 {
-    let fits = row.good & (row.count == 1);
-    if !fits {
-        return refuse(t, 1, out, at);
+    if row.count != 1 {
+        return refuse(t, Refusal::Plan);
     }
-    let values = row.values;
-    let n = values[0];
-    let sender = t.sender;
-    let sent = sender::send(sender, n as usize);
-    let answer = sent.answer;
-    let next = sent.next;
-    match answer {
-        Sent::Refused(number) => refuse(t, number, out, at),
-        Sent::Went(line, due) => went(t, n, next, line, due, out, at),
+    let n = row.values[0];
+    let sent = sender::send(t.sender, n as usize);
+    match sent.answer {
+        Ok(to) => went(t, n, sent.next, to),
+        Err(refusal) => refuse(t, refusal),
     }
 }
 
-// One line of text, of which this is the row of numbers, makes one line of table from a place of out on. Where out has no room for the
-// longest, nothing changes: the answer is the table and the place that were given.
-pub fn line_of(t: Table, row: Row, out: &mut [u8], at: usize) -> Step
+// By the stage; no row of numbers is bad text.
+#[tactic(auto, unfolding(crate::specs::Steps::row_made))]
+fn row_made(t: Table, row: Option<Row>) -> (Table, Entry)
+    ensures { Makes (row_made t row) result }
+{
+    match (t.stage, row) {
+        (Stage::Ended, _) => (t, Entry::Nothing),
+        (_, None) => refuse(t, Refusal::Plan),
+        (Stage::PlanToCome, Some(row)) => plan_line(t, row),
+        (Stage::Packets, Some(row)) => packet_line(t, row),
+    }
+}
+
+// One line of text, of which this is the row of numbers (none: bad text), makes one line of table from a place of out on. Where out has
+// no room for the longest, nothing changes: the answer is the table and the place that were given.
+#[tactic(auto, unfolding(crate::specs::Steps::line_at))]
+pub fn line_of(t: Table, row: Option<Row>, out: &mut [u8], at: usize) -> Step
     ensures { SteppedWhereRoom t (row_made t row) at out.old result out.new }
 {
-    if out.len() < at {
+    if out.len().saturating_sub(at) < Table::MOST_TEXT {
         return Step { table: t, at };
     }
-    if out.len() - at < Table::MOST_TEXT {
-        return Step { table: t, at };
-    }
-    let stage = t.stage;
-    match stage {
-        Stage::PlanToCome => plan_line(t, row, out, at),
-        Stage::Packets => packet_line(t, row, out, at),
-        Stage::Ended => Step { table: t, at },
+    let (table, entry) = row_made(t, row);
+    Step {
+        table,
+        at: put(entry, out, at),
     }
 }

@@ -3,229 +3,239 @@
 #![tactic(auto)]
 
 ghost use Rattle.std.specs.Prelude.{◌≡◌, ◌+◌, ◌%◌, ◌^◌, ◌<◌, ◌≤◌, true, [], length};
-ghost use Rattle.plan.specs.Limits.{item_head, most_lines, most_store};
+ghost use Rattle.plan.specs.Limits.{item_head, most_lines};
 ghost use Rattle.plan.specs.Plan.{at};
 ghost use Rattle.theory.specs.Sending.{best};
 ghost use Rattle.report.specs.Report.{marker_on, ahead, report_of};
-ghost use Rattle.ring.specs.Ring.{in_front};
 ghost use Rattle.receiving.specs.Receiver.{line_of, receiver_ok, store_fits};
-ghost use Rattle.receiving.specs.Taking.{past, charged_turn, data_head, marker_head, item_on, told_step, step_of, line_step, round_now, with_line, not_taken, take_of};
+ghost use Rattle.receiving.specs.Taking.{past, charged_turn, data_head, marker_head, item_on, told_step, line_step, round_now, with_line, take_of};
 ghost use Rattle.receiving.specs.Takes.{bytes_of, end_of, goes_on, takes_of};
 ghost use Rattle.receiving.specs.Ready.{Ready};
 ghost use Rattle.taking.specs.Words.{taken_word, ended_word};
 
-use marker::{Marker, MarkerRead};
-use numbers::Written;
+use marker::Marker;
+use numbers::Refusal;
 use plan::{LinePlan, Plan};
-use receiving::{Ended, Held, Line, Receiver, Step, TakeResult, Taken, TakesResult, Turn};
-use report::Report;
-use ring::Front;
+use receiving::{Ended, Held, Line, Receiver, Step, TakeResult, Taken, TakesResult, Turn, Turns};
 
 // No marker is longer: three numbers of at most five bytes.
 const LONGEST_MARKER: usize = 15;
 
 // ---- one line
 
-// A line's figures once an item of n bytes is gone from its ring of `size`, and its turn is this.
-fn past_item(size: u32, l: Line, n: u32, turn: Turn) -> Line
-    requires { (l.held.head < size) × (item_head + n ≤ l.held.used) × (l.held.used ≤ size) × (size ≤ most_store) }
-    ensures { result ≡ past size l n turn }
-{
-    let before = l.held;
-    let gone = Plan::ITEM_HEAD + n;
-    let held = Held {
-        head: (before.head + gone) % size,
-        used: before.used - gone,
-    };
-    Line { held, turn }
+// A line of a plan, with its figures and its ring: all in range for one another.
+#[derive(Clone, Copy)]
+struct Lane<'a> {
+    plan: LinePlan,
+    number: u32,
+    figures: Line,
+    ring: &'a [u8],
+    ghost ready: { Ready plan (length ring.now) figures },
 }
 
-fn stays(l: Line, answer: Taken) -> Step
-    ensures { result ≡ record { answer = answer; line = l } }
-{
-    Step { answer, line: l }
-}
-
-// A packet of n bytes has been handed out: the counter moves as in sending.
-fn after_data(p: LinePlan, size: u32, l: Line, n: u32) -> Line
-    requires { Ready p size l × (1 ≤ n) × (n ≤ p.largest) × (item_head + n ≤ l.held.used) }
-    ensures { result ≡ past size l n (charged_turn p l.turn n) }
-{
-    let turn = l.turn;
-    let charge = plan::charge(p, n);
-    if turn.counter <= charge {
-        let round = std::num::wrapping_add_u32(turn.round, 1);
-        let topped_up = Turn {
-            round,
-            counter: turn.counter + p.quantum - charge,
-        };
-        return past_item(size, l, n, topped_up);
-    }
-    let charged = Turn {
-        round: turn.round,
-        counter: turn.counter - charge,
-    };
-    past_item(size, l, n, charged)
-}
-
-// Data of n bytes at the head.
-fn take_data(p: LinePlan, line: u32, l: Line, n: usize, ring: &[u8], out: &mut [u8]) -> Step
-    requires { Ready p (length ring.now) l × (item_head + n ≤ l.held.used) }
-    ensures { (result ≡ (step_of p (length ring.now) line l out.old (data_head p (in_front ring.now l.held.head n))).step)
-        × (out.new ≡ (step_of p (length ring.now) line l out.old (data_head p (in_front ring.now l.held.head n))).out) }
-{
-    if n < 1 {
-        return stays(l, Taken::Refused(9));
-    }
-    if (p.largest as usize) < n {
-        return stays(l, Taken::Refused(9));
-    }
-    let held = l.held;
-    let Written::Length(written) = ring::hand_out(ring, held.head, n, out) else {
-        return stays(l, Taken::Refused(8));
-    };
-    let length = n as u32;
-    let after = after_data(p, ring.len() as u32, l, length);
-    Step {
-        answer: Taken::Data(line, length),
-        line: after,
-    }
-}
-
-// A marker of n bytes, once it is read: what it reports, and the line's figures after it.
-fn after_marker(size: u32, line: u32, quantum: u32, l: Line, n: u32, m: Marker) -> Step
-    requires { (l.held.head < size) × (item_head + n ≤ l.held.used) × (l.held.used ≤ size) × (size ≤ most_store) }
-    ensures { result ≡ told_step size line l n m (report_of quantum l.turn.round l.turn.counter m) }
-{
-    let turn = l.turn;
-    match report::tell(quantum, turn.round, turn.counter, m) {
-        Report::Behind => {
-            let after = past_item(size, l, n, turn);
-            Step {
-                answer: Taken::Behind(line),
-                line: after,
-            }
+impl Lane<'_> {
+    // An answer that leaves the line as it is.
+    fn stays(&self, answer: Result<Taken, Refusal>) -> Step
+        ensures { result ≡ record { answer = answer; line = self.now.figures } }
+    {
+        Step {
+            answer,
+            line: self.figures,
         }
-        Report::Missing(missing) => {
-            let marked = Turn {
-                round: m.round,
-                counter: m.counter,
-            };
-            let after = past_item(size, l, n, marked);
-            Step {
-                answer: Taken::Missing(line, missing),
-                line: after,
+    }
+
+    // A take on the line.
+    #[tactic(auto, using(receiving::proofs::Taking::item_fits, receiving::proofs::Taking::item_front), unfolding(receiving::specs::Taking::head_on))]
+    fn take(&self, out: &mut [u8]) -> Step
+        ensures { (result ≡ (line_step self.now.plan self.now.number self.now.figures self.now.ring.now out.old).step)
+            × (out.new ≡ (line_step self.now.plan self.now.number self.now.figures self.now.ring.now out.old).out) }
+    {
+        let held = self.figures.held;
+        if held.used == 0 {
+            return self.stays(Ok(Taken::Waiting(self.number)));
+        }
+        match ring::head_item(self.ring, held.head, held.used) {
+            Some((kind, length)) => Item {
+                lane: *self,
+                kind,
+                length: length as u32,
             }
+            .take(out),
+            None => self.stays(Err(Refusal::Store)),
         }
     }
 }
 
-// A marker of n bytes at the head: it writes nothing.
-fn take_marker(p: LinePlan, line: u32, l: Line, n: usize, ring: &[u8]) -> Step
-    requires { Ready p (length ring.now) l × (item_head + n ≤ l.held.used) }
-    ensures { result ≡ (step_of p (length ring.now) line l [] (marker_head n (marker_on line p.quantum (in_front ring.now l.held.head n)))).step }
-{
-    let held = l.held;
-    let mut bytes = [0u8; LONGEST_MARKER];
-    let Written::Length(length) = ring::hand_out(ring, held.head, n, &mut bytes) else {
-        return stays(l, Taken::Refused(9));
-    };
-    let MarkerRead::Whole(m) = report::read_on(line, p.quantum, &bytes[..n]) else {
-        return stays(l, Taken::Refused(9));
-    };
-    after_marker(ring.len() as u32, line, p.quantum, l, n as u32, m)
-}
-
-// An item of that kind and length at the head.
-fn take_item(
-    p: LinePlan,
-    line: u32,
-    l: Line,
+// The item at the head of a line's queue: the line holds all of it. Its kind is a byte of the store, which may be anything, so it is a byte here.
+#[derive(Clone, Copy)]
+struct Item<'a> {
+    lane: Lane<'a>,
     kind: u8,
-    n: usize,
-    ring: &[u8],
-    out: &mut [u8],
-) -> Step
-    requires { Ready p (length ring.now) l × (item_head + n ≤ l.held.used) }
-    ensures { (result ≡ (step_of p (length ring.now) line l out.old (item_on p line kind (in_front ring.now l.held.head n))).step)
-        × (out.new ≡ (step_of p (length ring.now) line l out.old (item_on p line kind (in_front ring.now l.held.head n))).out) }
-{
-    if kind == 0 {
-        return take_data(p, line, l, n, ring, out);
-    }
-    if kind == 1 {
-        return take_marker(p, line, l, n, ring);
-    }
-    stays(l, Taken::Refused(9))
+    length: u32,
+    ghost whole: { item_head + length ≤ lane.figures.held.used },
 }
 
-// A take on one line of a valid state.
-fn take_line(p: LinePlan, line: u32, l: Line, ring: &[u8], out: &mut [u8]) -> Step
-    requires { Ready p (length ring.now) l }
-    ensures { (result ≡ (line_step p line l ring.now out.old).step)
-        × (out.new ≡ (line_step p line l ring.now out.old).out) }
-{
-    let held = l.held;
-    if held.used == 0 {
-        return stays(l, Taken::Waiting(line));
+impl Item<'_> {
+    ghost use Rattle.taking.specs.Lanes.{step_on, bytes_in};
+
+    // The line's figures once the item is gone from its ring, and its turn is this.
+    fn past(&self, turn: Turn) -> Line
+        ensures { result ≡ past (length self.now.lane.ring.now) self.now.lane.figures self.now.length turn }
+    {
+        let held = self.lane.figures.held;
+        let gone = Plan::ITEM_HEAD + self.length;
+        let after = Held {
+            head: (held.head + gone) % self.lane.ring.len() as u32,
+            used: held.used - gone,
+        };
+        Line { held: after, turn }
     }
-    match ring::head_item(ring, held.head, held.used) {
-        Front::Item(kind, n) => take_item(p, line, l, kind, n, ring, out),
-        Front::Nothing => stays(l, Taken::Refused(9)),
+
+    // A packet has been handed out: the counter moves as in sending.
+    #[tactic(auto, using(crate::proofs::Lanes::item_covered))]
+    fn after_data(&self) -> Line
+        requires { (1 ≤ self.now.length) × (self.now.length ≤ self.now.lane.plan.largest) }
+        ensures { result ≡ past (length self.now.lane.ring.now) self.now.lane.figures self.now.length (charged_turn self.now.lane.plan self.now.lane.figures.turn self.now.length) }
+    {
+        let plan = self.lane.plan;
+        let turn = self.lane.figures.turn;
+        let charge = plan::charge(plan, self.length);
+        if turn.counter <= charge {
+            return self.past(Turn {
+                round: turn.round.wrapping_add(1),
+                counter: turn.counter + plan.quantum - charge,
+            });
+        }
+        self.past(Turn {
+            round: turn.round,
+            counter: turn.counter - charge,
+        })
+    }
+
+    #[tactic(auto, using(crate::proofs::Lanes::item_length), unfolding(numbers::specs::Writing::outcome))]
+    fn take_data(&self, out: &mut [u8]) -> Step
+        ensures { (result ≡ (step_on self.now.lane out.old (data_head self.now.lane.plan (bytes_in self.now))).step)
+            × (out.new ≡ (step_on self.now.lane out.old (data_head self.now.lane.plan (bytes_in self.now))).out) }
+    {
+        let lane = &self.lane;
+        if !numbers::in_range(1, self.length, lane.plan.largest) {
+            return lane.stays(Err(Refusal::Store));
+        }
+        if ring::hand_out(lane.ring, lane.figures.held.head, self.length as usize, out).is_err() {
+            return lane.stays(Err(Refusal::ShortOutput));
+        }
+        Step {
+            answer: Ok(Taken::Data(lane.number, self.length)),
+            line: self.after_data(),
+        }
+    }
+
+    // A marker, once it is read: what it reports, and the line's figures after it.
+    fn after_marker(&self, m: Marker) -> Step
+        ensures { result ≡ told_step (length self.now.lane.ring.now) self.now.lane.number self.now.lane.figures self.now.length m (report_of self.now.lane.plan.quantum self.now.lane.figures.turn.round self.now.lane.figures.turn.counter m) }
+    {
+        let lane = &self.lane;
+        let turn = lane.figures.turn;
+        match report::tell(lane.plan.quantum, turn.round, turn.counter, m) {
+            None => Step {
+                answer: Ok(Taken::Behind(lane.number)),
+                line: self.past(turn),
+            },
+            Some(missing) => Step {
+                answer: Ok(Taken::Missing(lane.number, missing)),
+                line: self.past(Turn {
+                    round: m.round,
+                    counter: m.counter,
+                }),
+            },
+        }
+    }
+
+    // A marker writes nothing.
+    #[tactic(auto, using(crate::proofs::Lanes::item_length, crate::proofs::Lanes::item_copied, receiving::proofs::Taking::over_long), unfolding(numbers::specs::Writing::outcome))]
+    fn take_marker(&self) -> Step
+        ensures { result ≡ (step_on self.now.lane [] (marker_head self.now.length (marker_on self.now.lane.number self.now.lane.plan.quantum (bytes_in self.now)))).step }
+    {
+        let lane = &self.lane;
+        let mut bytes = [0u8; LONGEST_MARKER];
+        if ring::hand_out(
+            lane.ring,
+            lane.figures.held.head,
+            self.length as usize,
+            &mut bytes,
+        )
+        .is_err()
+        {
+            return lane.stays(Err(Refusal::Store));
+        }
+        match report::read_on(
+            lane.number,
+            lane.plan.quantum,
+            &bytes[..self.length as usize],
+        ) {
+            Ok(m) => self.after_marker(m),
+            Err(_) => lane.stays(Err(Refusal::Store)),
+        }
+    }
+
+    // A take of the item.
+    #[tactic(auto, using(crate::proofs::Lanes::item_length), unfolding(receiving::specs::Taking::item_on))]
+    fn take(&self, out: &mut [u8]) -> Step
+        ensures { (result ≡ (step_on self.now.lane out.old (item_on self.now.lane.plan self.now.lane.number self.now.kind (bytes_in self.now))).step)
+            × (out.new ≡ (step_on self.now.lane out.old (item_on self.now.lane.plan self.now.lane.number self.now.kind (bytes_in self.now))).out) }
+    {
+        match self.kind {
+            0 => self.take_data(out),
+            1 => self.take_marker(),
+            _ => self.lane.stays(Err(Refusal::Store)),
+        }
     }
 }
 
 // ---- the whole state
 
-// The line whose round is nearest, counted on from a round.
-fn nearest(lines: u32, rounds: [u32; Plan::MOST_LINES], round: u32) -> u32
+// The line whose round is nearest, counted on from the current one.
+#[tactic(auto, using(theory::proofs::Choose::best_one, theory::proofs::Choose::best_changed, theory::proofs::Choose::best_kept))]
+fn nearest(lines: u32, t: &Turns) -> u32
     requires { (1 ≤ lines) × (lines ≤ most_lines) }
-    ensures { result ≡ best (λ i. ahead (at rounds i) round) lines }
+    ensures { result ≡ best (λ i. ahead (at t.now.rounds i) t.now.round) lines }
 {
-    let mut found: u32 = 0;
-    let mut least = report::rounds_ahead(rounds[0], round);
-    let mut i: u32 = 1;
-    while i < lines {
-        let rounds_on = report::rounds_ahead(rounds[i as usize], round);
+    let mut found = 0;
+    let mut least = report::rounds_ahead(t.rounds[0], t.round);
+    for i in 1..lines {
+        let rounds_on = report::rounds_ahead(t.rounds[i as usize], t.round);
         if rounds_on < least {
             least = rounds_on;
             found = i;
         }
-        i += 1;
     }
     found
 }
 
 // The current round, once a line's round may have risen.
-fn round_now(lines: u32, rounds: [u32; Plan::MOST_LINES], round: u32) -> u32
+#[tactic(auto, unfolding(receiving::specs::Taking::round_now))]
+fn round_now(lines: u32, t: &Turns) -> u32
     requires { (1 ≤ lines) × (lines ≤ most_lines) }
-    ensures { result ≡ round_now lines (at rounds) round }
+    ensures { result ≡ round_now lines (at t.now.rounds) t.now.round }
 {
-    if receiver::line_at(lines, rounds, round) < lines {
-        return round;
+    if receiver::line_at(lines, t.rounds, t.round) < lines {
+        return t.round;
     }
-    let line = nearest(lines, rounds, round);
-    plan::entry(rounds, line)
+    plan::entry(t.rounds, nearest(lines, t))
 }
 
 // A line's figures.
 fn line_of(r: Receiver, line: u32) -> Line
     ensures { result ≡ line_of r line }
 {
-    let rings = r.rings;
-    let heads = rings.heads;
-    let used = rings.used;
-    let turns = r.turns;
-    let rounds = turns.rounds;
-    let counters = turns.counters;
     Line {
         held: Held {
-            head: plan::entry(heads, line),
-            used: plan::entry(used, line),
+            head: plan::entry(r.rings.heads, line),
+            used: plan::entry(r.rings.used, line),
         },
         turn: Turn {
-            round: plan::entry(rounds, line),
-            counter: plan::entry(counters, line),
+            round: plan::entry(r.turns.rounds, line),
+            counter: plan::entry(r.turns.counters, line),
         },
     }
 }
@@ -235,145 +245,110 @@ fn with_line(r: Receiver, line: u32, l: Line) -> Receiver
     requires { (line < r.plan.lines) × (r.plan.lines ≤ most_lines) }
     ensures { result ≡ with_line r line l }
 {
-    let plan = r.plan;
-    let mut rings = r.rings;
-    let mut turns = r.turns;
-    let held = l.held;
-    let turn = l.turn;
+    let mut next = r;
     let i = line as usize;
-    rings.heads[i] = held.head;
-    rings.used[i] = held.used;
-    turns.rounds[i] = turn.round;
-    turns.counters[i] = turn.counter;
-    let rounds = turns.rounds;
-    turns.round = round_now(plan.lines, rounds, turns.round);
-    Receiver { plan, rings, turns }
+    next.rings.heads[i] = l.held.head;
+    next.rings.used[i] = l.held.used;
+    next.turns.rounds[i] = l.turn.round;
+    next.turns.counters[i] = l.turn.counter;
+    next.turns.round = round_now(next.plan.lines, &next.turns);
+    next
 }
 
-// A take of a valid state, with a store of its size.
+// A take of a valid state, with a store of its size. The two are lent apart, the store to read here and to change at an arrival, so no struct
+// carries the fact.
 fn take_checked(r: Receiver, store: &[u8], out: &mut [u8]) -> TakeResult
     requires { (receiver_ok r ≡ true) × (store_fits r store.now ≡ true) }
     ensures { (result ≡ (take_of r store.now out.old).result)
         × (out.new ≡ (take_of r store.now out.old).out) }
 {
-    let plan = r.plan;
-    let rings = r.rings;
-    let turns = r.turns;
-    let rounds = turns.rounds;
-    let line = receiver::line_at(plan.lines, rounds, turns.round);
-    let p = plan::line_plan(plan, line);
-    let l = line_of(r, line);
-    let start = receiver::rings_bytes(line, rings.size);
-    let end = start + rings.size as usize;
-    let s = take_line(p, line, l, &store[start..end], out);
-    let answer = s.answer;
-    let after = s.line;
-    let next = with_line(r, line, after);
-    TakeResult { answer, next }
-}
-
-fn not_taken(r: Receiver, number: u32) -> TakeResult
-    ensures { result ≡ not_taken r number }
-{
+    let number = receiver::line_at(r.plan.lines, r.turns.rounds, r.turns.round);
+    let start = receiver::rings_bytes(number, r.rings.size);
+    let end = start + r.rings.size as usize;
+    let lane = Lane {
+        plan: plan::line_plan(r.plan, number),
+        number,
+        figures: line_of(r, number),
+        ring: &store[start..end],
+    };
+    let step = lane.take(out);
     TakeResult {
-        answer: Taken::Refused(number),
-        next: r,
+        answer: step.answer,
+        next: with_line(r, number, step.line),
     }
 }
 
 // Takes the next item of the current line. Refused: 2, 9, 8.
+#[tactic(auto, unfolding(receiving::specs::Taking::take_of))]
 pub fn take(r: Receiver, store: &[u8], out: &mut [u8]) -> TakeResult
     ensures { (result ≡ (take_of r store.now out.old).result)
         × (out.new ≡ (take_of r store.now out.old).out) }
 {
-    if !receiver::is_valid(r) {
-        return not_taken(r, 2);
+    match receiver::lent(r, store.len()) {
+        Ok(()) => take_checked(r, store, out),
+        Err(refusal) => TakeResult {
+            answer: Err(refusal),
+            next: r,
+        },
     }
-    let plan = r.plan;
-    let rings = r.rings;
-    if store.len() != receiver::rings_bytes(plan.lines, rings.size) {
-        return not_taken(r, 9);
-    }
-    take_checked(r, store, out)
 }
 
 // ---- a run
 
 // Whether a run goes on after a take.
-fn goes_on(answer: Taken) -> bool
+fn goes_on(answer: Result<Taken, Refusal>) -> bool
     ensures { result ≡ goes_on answer }
 {
     match answer {
-        Taken::Waiting(line) => false,
-        Taken::Data(line, n) => true,
-        Taken::Missing(line, missing) => true,
-        Taken::Behind(line) => true,
-        Taken::Refused(number) => false,
+        Ok(Taken::Waiting(_)) | Err(_) => false,
+        Ok(_) => true,
     }
 }
 
 // How a run ends at a take.
-fn end_of(answer: Taken) -> Ended
+fn end_of(answer: Result<Taken, Refusal>) -> Result<Ended, Refusal>
     ensures { result ≡ end_of answer }
 {
-    match answer {
-        Taken::Waiting(line) => Ended::Waiting(line),
-        Taken::Data(line, n) => Ended::Full,
-        Taken::Missing(line, missing) => Ended::Full,
-        Taken::Behind(line) => Ended::Full,
-        Taken::Refused(number) => Ended::Refused(number),
+    match answer? {
+        Taken::Waiting(line) => Ok(Ended::Waiting(line)),
+        _ => Ok(Ended::Full),
     }
 }
 
 // The bytes that a take has written.
-fn bytes_of(answer: Taken) -> usize
+fn bytes_of(answer: Result<Taken, Refusal>) -> usize
     ensures { result ≡ bytes_of answer }
 {
     match answer {
-        Taken::Waiting(line) => 0,
-        Taken::Data(line, n) => n as usize,
-        Taken::Missing(line, missing) => 0,
-        Taken::Behind(line) => 0,
-        Taken::Refused(number) => 0,
+        Ok(Taken::Data(_, n)) => n as usize,
+        _ => 0,
     }
 }
 
 // Any take's answer as a word of 64 bits: its line, 16 times what it was, and 512 times a length or the bytes missing; or a refusal, by the rule of
 // the crate `answers`. A take's own answers all fit.
-pub fn word_of(answer: Taken) -> u64
+pub fn word_of(answer: Result<Taken, Refusal>) -> u64
     ensures { result ≡ taken_word answer % 2 ^ 64 }
 {
     match answer {
-        Taken::Data(line, n) => line as u64 + 512 * n as u64,
-        Taken::Missing(line, missing) => std::num::wrapping_add_u64(
-            16 + line as u64,
-            512 * (missing % 0x0080_0000_0000_0000),
-        ),
-        Taken::Behind(line) => 32 + line as u64,
-        Taken::Waiting(line) => 48 + line as u64,
-        Taken::Refused(number) => 256 + number as u64,
+        Ok(Taken::Data(line, n)) => line as u64 + 512 * n as u64,
+        Ok(Taken::Missing(line, missing)) => {
+            (16 + line as u64).wrapping_add(missing.wrapping_mul(512))
+        }
+        Ok(Taken::Behind(line)) => 32 + line as u64,
+        Ok(Taken::Waiting(line)) => 48 + line as u64,
+        Err(refusal) => 256 + refusal.number() as u64,
     }
 }
 
-// How a run ended as a word: 64, a kind of its own, where the log is full; else the word of the take that stopped it.
-pub fn ended_word(ended: Ended) -> u64
+// How a run ended as a word (a function with a name, as is a take's: `from` would not say which word): 64, a kind of its own, where the log is full; else the word of the take that stopped it.
+pub fn ended_word(ended: Result<Ended, Refusal>) -> u64
     ensures { result ≡ ended_word ended }
 {
     match ended {
-        Ended::Full => 64,
-        Ended::Waiting(line) => word_of(Taken::Waiting(line)),
-        Ended::Refused(number) => word_of(Taken::Refused(number)),
-    }
-}
-
-fn run_ended(ended: Ended, taken: usize, bytes: usize, r: Receiver) -> TakesResult
-    ensures { result ≡ record { ended = ended; taken = taken; bytes = bytes; next = r } }
-{
-    TakesResult {
-        ended,
-        taken,
-        bytes,
-        next: r,
+        Ok(Ended::Full) => 64,
+        Ok(Ended::Waiting(line)) => word_of(Ok(Taken::Waiting(line))),
+        Err(refusal) => word_of(Err(refusal)),
     }
 }
 
@@ -384,41 +359,47 @@ fn run_checked(r: Receiver, store: &[u8], out: &mut [u8], log: &mut [u64]) -> Ta
         × (out.new ≡ (takes_of r store.now out.old log.old).out)
         × (log.new ≡ (takes_of r store.now out.old log.old).log) }
 {
-    let count = log.len();
     let mut state = r;
-    let mut taken: usize = 0;
-    let mut bytes: usize = 0;
-    while taken < count {
+    let mut bytes = 0;
+    for taken in 0..log.len() {
         let t = take_checked(state, store, &mut out[bytes..]);
-        let answer = t.answer;
-        let next = t.next;
-        if !goes_on(answer) {
-            return run_ended(end_of(answer), taken, bytes, state);
+        if !goes_on(t.answer) {
+            return TakesResult {
+                ended: end_of(t.answer),
+                taken,
+                bytes,
+                next: state,
+            };
         }
-        log[taken] = word_of(answer);
-        bytes += bytes_of(answer);
-        state = next;
-        taken += 1;
+        log[taken] = word_of(t.answer);
+        bytes += bytes_of(t.answer);
+        state = t.next;
     }
-    run_ended(Ended::Full, taken, bytes, state)
+    TakesResult {
+        ended: Ok(Ended::Full),
+        taken: log.len(),
+        bytes,
+        next: state,
+    }
 }
 
 // Takes, one after another, until one waits or is refused, or the log is full. The packets lie one behind another at the front of out, and
 // the log has a word for each take: its line, 16 times what it was (0 data, 1 missing, 2 behind), and 512 times the length or the bytes missing.
 // Refused: 2, 9 before the log is looked at. Ended by 8: the next packet is longer than what is left of out behind the bytes written, and by 9: the
 // next item cannot be one; what was taken before stands.
+#[tactic(auto, unfolding(receiving::specs::Takes::takes_of))]
 pub fn take_run(r: Receiver, store: &[u8], out: &mut [u8], log: &mut [u64]) -> TakesResult
     ensures { (result ≡ (takes_of r store.now out.old log.old).result)
         × (out.new ≡ (takes_of r store.now out.old log.old).out)
         × (log.new ≡ (takes_of r store.now out.old log.old).log) }
 {
-    if !receiver::is_valid(r) {
-        return run_ended(Ended::Refused(2), 0, 0, r);
+    match receiver::lent(r, store.len()) {
+        Ok(()) => run_checked(r, store, out, log),
+        Err(refusal) => TakesResult {
+            ended: Err(refusal),
+            taken: 0,
+            bytes: 0,
+            next: r,
+        },
     }
-    let plan = r.plan;
-    let rings = r.rings;
-    if store.len() != receiver::rings_bytes(plan.lines, rings.size) {
-        return run_ended(Ended::Refused(9), 0, 0, r);
-    }
-    run_checked(r, store, out, log)
 }

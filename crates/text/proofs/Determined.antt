@@ -8,8 +8,6 @@ use Rattle.text.proofs.put_spaced.Reads as put-spaced
 use Rattle.text.proofs.put_spaced.Kinds as put-spaced-kinds
 use Rattle.text.proofs.is_digit.Reads as is_digit
 use Rattle.text.proofs.is_digit.Kinds as is-digit-kinds
-use Rattle.text.proofs.no_row.Reads as no_row
-use Rattle.text.proofs.no_row.Kinds as no-row-kinds
 use Rattle.text.proofs.read_row.Reads as read-row
 use Rattle.text.proofs.read_row.Kinds as read-row-kinds
 
@@ -24,9 +22,6 @@ put_spaced_tight κs a z z' e e' p q = (only p.0 q.0, only p.1 q.1)
 
 pub is_digit_tight : OneAnswer 0 is-digit-kinds.ps is-digit-kinds.r is_digit.Post
 is_digit_tight κs a z z' e e' p q = only p q
-
-pub no_row_tight : OneAnswer 0 no-row-kinds.ps no-row-kinds.r no_row.Post
-no_row_tight κs a z z' e e' p q = only p q
 
 pub read_row_tight : OneAnswer 1 read-row-kinds.ps read-row-kinds.r read-row.Post
 read_row_tight κs a z z' e e' p q = only p q

@@ -1,14 +1,15 @@
 -- The laws of a number's decimal digits, and of texts put one after another. Assumes nothing.
-use borrow.Author.Tests.{lt-ltb, le-ltb, ltb-false, le-leb, lt-leb}
+use borrow.Author.Tests.{lt-ltb, le-ltb, ltb-false, le-leb}
 use native.Mathlib.Nat.{pow-suc}
 use native.Mathlib.Omega.{arith}
 use mathlib.Core.Path.{◌≡◌, refl, ap, sym, ◌∙◌}
 use mathlib.Core.Bool.{Bool, true, false, cond}
-use mathlib.Core.List.{List, [], ◌∷◌, ◌++◌, flatten}
+use mathlib.Core.List.{List, [], ◌∷◌, ◌++◌, append_assoc, flatten}
 use Prim.Native.Nat.{ℕ, zero, suc, ◌+◌, ◌-◌, ◌/◌, ◌%◌, ◌^◌, ◌≤◌, ◌<◌}
+use borrow.Rule.Slice.PartMut.{put_mid}
 use lib.Dec.{ltb}
 use lib.ListN.{length, take, drop, set, length-append, length-drop, length-set}
-use lib.Seq.{sets, length-sets, drop-cons, get_or-set_same, drop-set-lt, append_snoc, take_all, take_at}
+use lib.Seq.{sets, sets-eq, length-sets, drop-drop, drop-cons, get_or-set_same, drop-set-lt, append_snoc, take_all, take_at}
 use Rattle.numbers.proofs.Laws.{sets-append}
 use Rattle.text.specs.Text.{space, digits_of, all_digits, decimal}
 use Rattle.text.specs.Printing.{spaced, EndsSpaced, placed, PutWhereFits, Put}
@@ -71,18 +72,21 @@ front bytes j d h =
     drop-cons (set bytes j d) j 0 (simp length-set h) ∙ rw (get_or-set_same bytes j d 0 h, drop-set-lt (suc j) bytes j d (omega arith))
 
 -- the digits of what is left of a number, in front of those that stand from a place on
-module _ (bytes rest : List ℕ) (from left : ℕ) (inside : from ≤ length bytes) (some : 0 < from) where
-  pub digit_stored : 10 ≤ left → left < 2 ^ 64 → decimal left ++ drop from bytes ≡ rest
-      → decimal (left / 10) ++ drop (from - 1) (set bytes (from - 1) (48 + left % 10)) ≡ rest
-  digit_stored h f e =
+module _ (bytes : List ℕ) (from left : ℕ) (inside : from ≤ length bytes) (some : 0 < from) where
+  pub digit_stored : 10 ≤ left → left < 2 ^ 64
+      → decimal (left / 10) ++ drop (from - 1) (set bytes (from - 1) (48 + left % 10)) ≡ decimal left ++ drop from bytes
+  digit_stored h f =
       let here : suc (from - 1) ≡ from = omega arith in
-      rw (front bytes (from - 1) (48 + left % 10) (omega arith), here)
-      (sym (append_snoc (decimal (left / 10)) (48 + left % 10) (drop from bytes)) ∙ rw (decimal_big left h f) at e)
+      rw (front bytes (from - 1) (48 + left % 10) (omega arith), here, decimal_big left h f) (sym (append_snoc (decimal (left / 10)) (48 + left % 10) (drop from bytes)))
 
-  pub last_digit : left < 10 → decimal left ++ drop from bytes ≡ rest → drop (from - 1) (set bytes (from - 1) (48 + left)) ≡ rest
-  last_digit h e =
+  pub last_digit : left < 10 → drop (from - 1) (set bytes (from - 1) (48 + left % 10)) ≡ decimal left ++ drop from bytes
+  last_digit h =
       let here : suc (from - 1) ≡ from = omega arith in
-      rw (front bytes (from - 1) (48 + left) (omega arith), here) (rw (decimal_small left h) at e)
+      let whole : left % 10 ≡ left = omega arith in
+      rw (whole, front bytes (from - 1) (48 + left) (omega arith), here, decimal_small left h) refl
+
+-- what a writer of digits goes by
+pub ruleset digit_by_digit = (digit_stored, last_digit, one_less, length-set)
 
 -- what stands from a place on, with the space behind it and without
 module _ (bytes : List ℕ) (from n : ℕ) (d : EndsSpaced bytes from n) where
@@ -96,15 +100,13 @@ module _ (bytes : List ℕ) (from n : ℕ) (d : EndsSpaced bytes from n) where
 
 -- ---- a text in an output
 
+-- a copy to the place where it fits
+pub copied : (text out : List ℕ) (at : ℕ) → at + length text ≤ length out → put_mid at (at + length text - at) out text ≡ sets out at text
+copied text out at h =
+    let size : at + length text - at ≡ length text = omega arith in
+    rw (size, sets-eq text out at h, append_assoc, drop-drop)
+
 module _ (text out : List ℕ) (at : ℕ) {r : ℕ} {after : List ℕ} where
-  pub put_over : length out < at + length text → r ≡ at → after ≡ out → PutWhereFits text at out r after
-  unfolding placed
-  put_over h e f = simp (lt-leb (at + length text) (length out) h) (e, f)
-
-  pub put_fits : at + length text ≤ length out → Put text at out r after → PutWhereFits text at out r after
-  unfolding placed
-  put_fits h p = simp (le-leb (at + length text) (length out) h) p
-
   pub fits_put : at + length text ≤ length out → PutWhereFits text at out r after → Put text at out r after
   unfolding placed
   fits_put h p = simp (le-leb (at + length text) (length out) h) at p

@@ -1,37 +1,18 @@
--- `plan::counters_ok` meets its contract: after i turns the counters of the first i lines were in range, or not. Assumes nothing.
-use Rattle.std.proofs.Common.{Bool, List, ap, arith, false, length, refl, sym, true, ℕ, ◌<◌, ◌∙◌, ◌≡◌}
-use lib.ListN.{get_or-eq_default}
-use Rattle.numbers.specs.Checks.{all_below}
+-- `plan::counters_ok` meets its contract: this turn's pair is the next line's. Assumes nothing.
+use Rattle.std.proofs.Common.{arith, get_or-take, length, length-take, take, sym, ◌∙◌, ◌<◌, ◌≡◌}
+use Rattle.std.proofs.lemmas.List.{length_push}
+use Rattle.std.proofs.lemmas.Slice.Zip.{zip_turn}
 use Rattle.numbers.proofs.Checks.{all_more}
-use Rattle.plan.specs.declared.Plan.{Plan}
-use Rattle.plan.specs.Plan.{counter_ok, counters_ok}
-use Rattle.plan.proofs.Laws.{counters_in}
+use Rattle.plan.specs.Plan.{at, counter_ok, quantum}
 use Rattle.plan.proofs.counters_ok.Goals as goal
-use Rattle.plan.proofs.counters_ok.Goals.{Start}
 
-sixteen : (c : Start) → length c.args.counters ≡ 16
-sixteen c = c.well_formed.1.0.1.0.1
-
--- the line behind the sixteenth has no counter
-too_many : (p : Plan) (counters : List ℕ) → length counters ≡ 16 → 16 < p.lines → counters_ok p counters ≡ false
-too_many p counters long more = go (counters_ok p counters) refl
-  where
-    go : (t : Bool) → counters_ok p counters ≡ t → counters_ok p counters ≡ false
-    go false e = e
-    go true e = absurd (omega (arith, counters_in p counters e 16 more, get_or-eq_default counters 0 {n = 16} (omega arith)))
-
-pub returns-then-n-gt-MOST_LINES : goal.returns-then-n-gt-MOST_LINES
-returns-then-n-gt-MOST_LINES c = sym (too_many c.args.p c.args.counters (sixteen (goal.at.returns-then-n-gt-MOST_LINES c).Start) (omega arith))
-
-pub loop-i-init : goal.loop-i-init
-unfolding all_below
-loop-i-init c = (omega arith, refl)
-
-pub loop-i-preserved : goal.loop-i-preserved
-loop-i-preserved c =
-    (omega arith, rw (c.loop-i.invariant.1, c.in_range-fits.ensures) (sym (all_more (counter_ok c.args.p c.args.counters) c.loop-i.i)))
-
-pub returns : goal.returns
-unfolding counters_ok
-returns c =
-    c.loop-i.invariant.1 ∙ ap (all_below (counter_ok c.args.p c.args.counters)) (omega arith)
+pub loop-c-preserved : goal.loop-c-preserved
+loop-c-preserved c =
+    let p = c.args.p in
+    let counters = c.args.counters in
+    let line = length c.loop-c.yielded in
+    let turn = zip_turn (take p.lines counters) (take p.lines p.quanta) c.loop-c.yielded c.into_iter-c-iterator.result c.loop-c.c-iterator c.next.new.self _ (cc) (cc) c.loop-c.yielded_by (c.in-Some.c, c.in-Some.q) c.in-Some.is c.next.ensures.steps in
+    let below : line < p.lines = omega (arith, turn.0, length-take p.lines counters) in
+    let its_counter : c.in-Some.c.now ≡ at counters line = turn.2 0 ∙ get_or-take p.lines counters line 0 below in
+    let its_quantum : c.in-Some.q.now ≡ quantum p line = turn.3 0 ∙ get_or-take p.lines p.quanta line 0 below in
+    rw (c.loop-c.invariant, c.in_range-good.ensures, its_counter, its_quantum, length_push) (sym (all_more (counter_ok p counters) line))

@@ -5,7 +5,4 @@ use Rattle.plan_record.proofs.read_quanta.Given as goal
 
 abbrev pub invariant-loop-i : goal.invariant-loop-i
 invariant-loop-i l =
-    (l.i ≤ l.n) × (l.at ≤ length l.s) × (l.plan.max ≡ l.p.max) × (quanta_read (l.n - l.i) l.i l.plan (drop l.at l.s) ≡ quanta_read l.n 0 l.p l.s)
-
-abbrev pub decreases-loop-i : goal.decreases-loop-i
-decreases-loop-i l = l.n - l.i
+    (l.at ≤ length l.s) × (l.plan.max ≡ l.p.max) × (quanta_read (l.p.lines - l.i) l.i l.plan (drop l.at l.s) ≡ quanta_read l.p.lines 0 l.p l.s)

@@ -1,43 +1,35 @@
--- `receiver::line_at` meets its contract: what is left of the lines, looked through from here, gives the answer. Assumes nothing.
-use Rattle.std.proofs.Common.{add-one, ap, arith, eq-eqb, ne_eqb, suc, sym, ℕ, ◌+◌, ◌-◌, ◌<◌, ◌∙◌, ◌≡◌}
+-- `receiver::line_at` meets its contract: the line found is the first that the definition finds. Assumes nothing.
+use Rattle.std.proofs.Common.{Bool, Option, None, Some, false, true, arith, eqb, rules, sym, tests, ℕ, ◌≤◌, ◌<◌, ◌≡◌, MatchOption, unwrap_or, ◌∙◌, inl, inr}
+use Rattle.std.proofs.lemmas.Iterator.{first_from_Range}
+use Rattle.std.proofs.lemmas.Bool.{cases_lt, cases_order, false≢true}
+use Rattle.plan.specs.Plan.{at}
 use Rattle.receiving.specs.Receiver.{first_from, line_at}
-use Rattle.receiving.proofs.Laws.{first_here, first_on, first_none}
-use Rattle.receiver.proofs.line_at.Invariants.{is_at}
+use Rattle.receiving.proofs.Laws.{first_is}
 use Rattle.receiver.proofs.line_at.Goals as goal
 
-one_left : (n i : ℕ) → i < n → n - i ≡ suc (n - (i + 1))
-one_left n i h = omega arith
-
-pub loop-i-init : goal.loop-i-init
-unfolding line_at
-loop-i-init c =
-    let all_left : c.args.lines - 0 ≡ c.args.lines = omega arith in
-    (omega arith, ap (λ (n : ℕ). first_from (is_at c.args.rounds c.args.round) n 0) all_left)
-
-pub returns-then-entry-round : goal.returns-then-entry-round
-returns-then-entry-round c =
-    let a = c.args in
-    let left = one_left a.lines c.loop-i.i c.loop-i-test.true in
-    first_here (is_at a.rounds a.round) (a.lines - (c.loop-i.i + 1)) c.loop-i.i (eq-eqb _ _ (sym c.entry.ensures ∙ c.if-entry-round.true))
-    ∙ ap (λ (n : ℕ). first_from (is_at a.rounds a.round) n c.loop-i.i) (sym left) ∙ c.loop-i.invariant.1
-
-pub loop-i-preserved : goal.loop-i-preserved
-loop-i-preserved c =
-    let a = c.args in
-    let left = one_left a.lines c.loop-i.i c.loop-i-test.true in (
-      omega arith,
-      ap (λ (k : ℕ). first_from (is_at a.rounds a.round) (a.lines - (c.loop-i.i + 1)) k) (add-one c.loop-i.i)
-          ∙ first_on (is_at a.rounds a.round) (a.lines - (c.loop-i.i + 1)) c.loop-i.i (ne_eqb _ _ (λ e. c.if-entry-round.false (c.entry.ensures ∙ e)))
-          ∙ ap (λ (n : ℕ). first_from (is_at a.rounds a.round) n c.loop-i.i) (sym left)
-          ∙ c.loop-i.invariant.1,
-    )
+found : (f : ℕ → Bool) (n : ℕ) (r : Option ℕ)
+    → MatchOption r ((k : ℕ) → 0 ≤ k → k < n → f k ≡ false) (λ i. (0 ≤ i) × (i < n) × (f i ≡ true) × ((k : ℕ) → 0 ≤ k → k < i → f k ≡ false))
+    → unwrap_or r n ≡ first_from f n 0
+found f n None h =
+    let is = first_is f n 0 in
+    elim (cases_lt (first_from f n 0) n) [
+      | inl below ↦ absurd (false≢true (sym (h (first_from f n 0) (omega arith) below) ∙ is.holds (omega arith)))
+      | inr past ↦ omega (arith, is.most)
+    ]
+found f n (Some i) h =
+    let is = first_is f n 0 in
+    elim (cases_order i (first_from f n 0)) [
+      | inl same ↦ same
+      | inr other ↦ elim other [
+        | inl before ↦ absurd (false≢true (sym (is.none i (omega arith) before) ∙ h.2))
+        | inr past ↦ absurd (false≢true (sym (h.3 (first_from f n 0) (omega arith) past) ∙ is.holds (omega arith)))
+      ]
+    ]
 
 pub returns : goal.returns
+unfolding line_at
 returns c =
     let a = c.args in
-    let none : a.lines - c.loop-i.i ≡ 0 = omega arith in
-    let here : a.lines ≡ c.loop-i.i = omega arith in
-    here
-    ∙ first_none (is_at a.rounds a.round) c.loop-i.i
-    ∙ ap (λ (n : ℕ). first_from (is_at a.rounds a.round) n c.loop-i.i) (sym none)
-    ∙ c.loop-i.invariant.1
+    let f = λ (i : ℕ). eqb (at a.rounds i) a.round in
+    let r = first_from_Range _ _ _ c.find.result (λ i. f i ≡ true) (λ i. f i ≡ false) c.find.ensures.ran (λ x q k. search (rules, tests)) (λ x q k. search (rules, tests)) in
+    c.unwrap_or.ensures ∙ found f a.lines c.find.result r

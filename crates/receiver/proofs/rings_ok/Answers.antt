@@ -1,25 +1,15 @@
--- `receiver::rings_ok` meets its contract: after i turns the first i lines' places were in range, or not. Assumes nothing.
-use Rattle.std.proofs.Common.{ap, arith, refl, sym, ◌∙◌, ◌≡◌}
-use Rattle.numbers.specs.Checks.{all_below}
+-- `receiver::rings_ok` meets its contract: the places of this turn are the next line's. Assumes nothing.
+use Rattle.std.proofs.Common.{arith, take}
+use Rattle.std.proofs.lemmas.Grind.{common_steps}
+use Rattle.std.proofs.lemmas.List.{length_push}
+use Rattle.std.proofs.lemmas.Slice.Zip.{zip_turn}
 use Rattle.numbers.proofs.Checks.{all_more}
-use Rattle.receiving.specs.Receiver.{held_ok, rings_ok}
 use Rattle.receiver.proofs.rings_ok.Goals as goal
 
-pub loop-i-init : goal.loop-i-init
-unfolding all_below
-loop-i-init c = (omega arith, refl)
-
-pub loop-i-smaller : goal.loop-i-smaller
-loop-i-smaller c = omega arith
-
-pub loop-i-preserved : goal.loop-i-preserved
-loop-i-preserved c =
-    let g = c.args.g in
-    (omega arith, rw c.loop-i.invariant.1 (sym (all_more (held_ok g) c.loop-i.i)))
-
-pub returns : goal.returns
-unfolding rings_ok
-returns c =
+pub loop-head-preserved : goal.loop-head-preserved
+loop-head-preserved c =
     let a = c.args in
-    let all : c.loop-i.good ≡ all_below (held_ok a.g) a.p.lines = c.loop-i.invariant.1 ∙ ap (all_below (held_ok a.g)) (omega arith) in
-    rw (c.store_ok.ensures, all)
+    let heads = take a.p.lines a.g.now.heads in
+    let used = take a.p.lines a.g.now.used in
+    let turn = zip_turn heads used _ c.into_iter-head-iterator.result _ c.next.new.self _ (cc) (cc) c.loop-head.yielded_by _ c.in-Some.is c.next.ensures.steps in
+    grind (arith, common_steps, all_more, turn.2 0, turn.3 0, length_push c.loop-head.yielded (c.in-Some.head, c.in-Some.used))

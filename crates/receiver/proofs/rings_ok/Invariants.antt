@@ -1,11 +1,9 @@
--- `receiver::rings_ok` meets its contract: after i turns the first i lines' places were in range, or not. Assumes nothing.
-use Rattle.std.proofs.Common.{◌-◌, ◌≡◌, ◌≤◌}
+-- `receiver::rings_ok` meets its contract: after so many lines their places were in range, or not. Assumes nothing.
+use Rattle.std.proofs.Common.{length, ◌&&◌, ◌≡◌}
 use Rattle.numbers.specs.Checks.{all_below}
+use Rattle.plan.specs.Plan.{store_ok}
 use Rattle.receiving.specs.Receiver.{held_ok}
 use Rattle.receiver.proofs.rings_ok.Given as goal
 
-abbrev pub invariant-loop-i : goal.invariant-loop-i
-invariant-loop-i l = (l.i ≤ l.n) × (l.good ≡ all_below (held_ok l.g) l.i)
-
-abbrev pub decreases-loop-i : goal.decreases-loop-i
-decreases-loop-i l = l.n - l.i
+abbrev pub invariant-loop-head : goal.invariant-loop-head
+invariant-loop-head l = l.good ≡ store_ok l.fn.p l.g.size && all_below (held_ok l.g) (length l.yielded)

@@ -7,9 +7,10 @@ use Rattle.table.proofs.put_row.Goals as goal
 pub returns : goal.returns
 returns c =
     let a = c.args in
+    let p = c.args.p in
     put_last
     (put_next (put_next (put_next (put_next (put_next (put_next
-    (put_first (row a.number a.size a.line a.round a.counter a.due) (row_parts a.number a.size a.line a.round a.counter a.due) a.at a.out.now
-    (row_is a.number a.size a.line a.round a.counter a.due) c.requires)
+    (put_first (row p.number p.size p.line p.round p.counter p.due) (row_parts p.number p.size p.line p.round p.counter p.due) a.at a.out.now
+    (row_is p.number p.size p.line p.round p.counter p.due) c.requires)
     c.put_spaced-after_number.ensures) c.put_spaced-after_size.ensures) c.put_spaced-after_line.ensures) c.put_spaced-after_round.ensures) c.put_spaced-after_counter.ensures)
     (rw c.mark.ensures at c.put_text.ensures))

@@ -1,5 +1,5 @@
 -- `taking::nearest` meets its contract: after i turns the best of the first i lines is found. Assumes nothing.
-use Rattle.std.proofs.Common.{List, get_or, ℕ, ◌-◌, ◌≡◌, ◌≤◌}
+use Rattle.std.proofs.Common.{List, get_or, ℕ, ◌≡◌}
 use Rattle.report.specs.Report.{ahead}
 use Rattle.theory.specs.Sending.{best}
 use Rattle.taking.proofs.nearest.Given as goal
@@ -9,8 +9,4 @@ abbrev pub key : List ℕ → ℕ → ℕ → ℕ
 key rounds round j = ahead (get_or rounds j 0) round
 
 abbrev pub invariant-loop-i : goal.invariant-loop-i
-invariant-loop-i l =
-    (1 ≤ l.i) × (l.i ≤ l.lines) × (l.found ≡ best (key l.rounds l.round) l.i) × (l.least ≡ key l.rounds l.round l.found)
-
-abbrev pub decreases-loop-i : goal.decreases-loop-i
-decreases-loop-i l = l.lines - l.i
+invariant-loop-i l = (l.found ≡ best (key l.t.rounds l.t.round) l.i) × (l.least ≡ key l.t.rounds l.t.round l.found)

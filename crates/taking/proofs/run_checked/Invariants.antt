@@ -5,9 +5,10 @@ use Rattle.receiving.specs.Takes.{takes_from}
 use Rattle.taking.proofs.run_checked.Given as goal
 
 abbrev pub invariant-loop-taken : goal.invariant-loop-taken
-invariant-loop-taken l =
-    (l.taken ≤ l.count) × (receiver_ok l.state ≡ true) × (store_fits l.state l.store ≡ true) × (l.bytes ≤ length l.out) × (length l.out ≡ length l.initial.out)
-    × (length l.log ≡ l.count) × (takes_from (l.count - l.taken) l.store l.state l.taken l.bytes l.out l.log ≡ takes_from l.count l.store l.initial.state 0 0 l.initial.out l.initial.log)
-
-abbrev pub decreases-loop-taken : goal.decreases-loop-taken
-decreases-loop-taken l = l.count - l.taken
+invariant-loop-taken l = record {
+  valid : receiver_ok l.state ≡ true;
+  fits : store_fits l.state l.store ≡ true;
+  within : l.bytes ≤ length l.out;
+  left : takes_from (length l.initial.log - l.taken) l.store l.state l.taken l.bytes l.out l.log
+      ≡ takes_from (length l.initial.log) l.store l.initial.state 0 0 l.initial.out l.initial.log;
+}

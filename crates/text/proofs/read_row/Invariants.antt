@@ -4,10 +4,8 @@ use Rattle.text.specs.Text.{said_from, said}
 use Rattle.text.specs.Rows.{most_numbers, row_of}
 use Rattle.text.proofs.read_row.Given as goal
 
-abbrev pub invariant-loop-i : goal.invariant-loop-i
-invariant-loop-i l =
-    (l.i ≤ length l.line) × (l.count ≤ 18) × (length l.values ≡ most_numbers) × (l.digits ≤ 10) × (l.value < 10 ^ l.digits)
-    × (drop l.count l.values ≡ replicate (most_numbers - l.count) 0) × (row_of (said_from (take l.count l.values) l.digits l.value (drop l.i l.line)) ≡ row_of (said l.line))
-
-abbrev pub decreases-loop-i : goal.decreases-loop-i
-decreases-loop-i l = length l.line - l.i
+abbrev pub invariant-loop-b : goal.invariant-loop-b
+invariant-loop-b l =
+    (l.row.count < most_numbers) × (length l.row.values ≡ most_numbers) × (l.digits ≤ 10) × (l.value < 10 ^ l.digits)
+    × (drop l.row.count l.row.values ≡ replicate (most_numbers - l.row.count) 0)
+    × (row_of (said_from (take l.row.count l.row.values) l.digits l.value (drop l.b-index l.line)) ≡ row_of (said l.line))

@@ -1,6 +1,0 @@
--- The loop ends.
-use Rattle.std.proofs.Common.{◌-◌, length}
-use Rattle.player.proofs.digest.words.Given as goal
-
-abbrev pub decreases-loop-i : goal.decreases-loop-i
-decreases-loop-i l = length l.all - l.i

@@ -1,5 +1,0 @@
--- The program ends.
-use Rattle.stripes.proofs.main.Given as goal
-
-abbrev pub decreases-loop-turns : goal.decreases-loop-turns
-decreases-loop-turns l = l.turns
