@@ -2,8 +2,35 @@
 // other side.
 #![tactic(auto)]
 
-ghost use Rattle.std.specs.Prelude.{◌≡◌, ◌%◌, ◌^◌};
+ghost use Rattle.std.specs.Prelude.{ℕ, ◌≡◌, ◌%◌, ◌^◌};
+ghost use Rattle.numbers.specs.Refusals.{number};
 ghost use Rattle.answers.specs.Answers as answers;
+
+use numbers::Refusal;
+
+// What a refusal is told by: one of the table, or any number.
+pub trait Numbered {
+    ghost number_told: { Self → ℕ };
+
+    fn told_number(self) -> u32
+        ensures { result ≡ number_told self };
+}
+
+impl Numbered for Refusal {
+    ghost number_told = { number };
+
+    fn told_number(self) -> u32 {
+        self.number()
+    }
+}
+
+impl Numbered for u32 {
+    ghost number_told = { λ k. k };
+
+    fn told_number(self) -> u32 {
+        self
+    }
+}
 
 // What a call answers that has nothing else to say: 0, or the refusal by this number. It takes any number, as it promises of any; the table's
 // all fit.

@@ -31,10 +31,10 @@ zeros_refused s out = refl
 pub copy_is_the_record : (s out : List ℕ) → Bytes s → copied s out ≡ outcome (check (eqb (number_of (plan_read s)) 0) refusal.Plan (room s out)) s out
 copy_is_the_record s out bytes = go (read_or_refused s)
   where
-    go : (number_of (plan_read s) ≡ 0) ⊎ (plan_read s ≡ refused_plan) → copied s out ≡ outcome (check (eqb (number_of (plan_read s)) 0) refusal.Plan (room s out)) s out
+    go : (number_of (plan_read s) ≡ 0) ⊎ ((plan_read s ≡ refused_plan) × (plan_of (plan_read s) ≡ no_plan)) → copied s out ≡ outcome (check (eqb (number_of (plan_read s)) 0) refusal.Plan (room s out)) s out
     go (inl good) =
         let reads : plan_read s ≡ Ok (plan_of (plan_read s)) = accepted (plan_read s) good in
         let same = read_is_written s (plan_of (plan_read s)) bytes reads in
         rw (eq-eqb (number_of (plan_read s)) 0 good)
         (sym (as_written (plan_of (plan_read s)) out same.1) ∙ ap (λ (b : List ℕ). written b out) (sym same.0))
-    go (inr bad) = rw bad (zeros_refused s out)
+    go (inr bad) = rw bad.0 (zeros_refused s out)

@@ -78,9 +78,9 @@ send_refused s n = go (send_of s n).answer refl
 pub read_refused : (b : List ℕ) → refused_in (told (number_of (plan_read b))) ≡ true → plan_of (plan_read b) ≡ no_plan
 read_refused b h = go (read_or_refused b)
   where
-    go : (number_of (plan_read b) ≡ 0) ⊎ (plan_read b ≡ refused_plan) → plan_of (plan_read b) ≡ no_plan
+    go : (number_of (plan_read b) ≡ 0) ⊎ ((plan_read b ≡ refused_plan) × (plan_of (plan_read b) ≡ no_plan)) → plan_of (plan_read b) ≡ no_plan
     go (inl good) = absurd (has_number (number_of (plan_read b)) h good)
-    go (inr bad) = ap plan_of bad
+    go (inr bad) = bad.1
 
 pub open_refused : (p : Plan) → refused_in (told (number_of (open_sender p))) ≡ true → sender_of (open_sender p) ≡ closed_sender
 unfolding open_sender

@@ -19,7 +19,7 @@ use Rattle.numbers.specs.Writing.{Outcome, room, outcome, written}
 use Rattle.numbers.proofs.Checks.{check_passed, in_range_lem, from_range, no_zero, by_checks}
 use Rattle.numbers.proofs.Laws.{accepted as accepted-bytes, answered_number, round_trip, fits, split}
 use Rattle.plan.specs.declared.Plan.{Plan}
-use Rattle.plan.specs.Plan.{at, plan_ok, first_entries}
+use Rattle.plan.specs.Plan.{at, no_plan, plan_ok, first_entries}
 use Rattle.plan.specs.Ranges.{From, PlanIn}
 use Rattle.plan.proofs.Ranges.{plan_in, plan_good_lem}
 use Rattle.plan_record.specs.Record.{PlanRead, plan_of, plan_bytes, plan_read, plan_written, refused_plan}
@@ -163,18 +163,18 @@ accepted_plan (Err k) e = absurd (no_zero k e)
 pub table_reads_plan : (b : List ℕ) → Bytes b → given 1 (Not ((p : Plan) × PlanSpelled b p)) accepted (number_of (plan_read b))
 table_reads_plan b bytes = go (read_or_refused b)
   where
-    go : (number_of (plan_read b) ≡ 0) ⊎ (plan_read b ≡ refused_plan) → given 1 (Not ((p : Plan) × PlanSpelled b p)) accepted (number_of (plan_read b))
+    go : (number_of (plan_read b) ≡ 0) ⊎ ((plan_read b ≡ refused_plan) × (plan_of (plan_read b) ≡ no_plan)) → given 1 (Not ((p : Plan) × PlanSpelled b p)) accepted (number_of (plan_read b))
     go (inl e) = let r = accepted_plan (plan_read b) e in inr (λ n. n (r.0, plan_spelled b r.0 bytes r.1), e)
     go (inr e) =
-        let one : number_of (plan_read b) ≡ 1 = ap number_of e in
+        let one : number_of (plan_read b) ≡ 1 = ap number_of e.0 in
         inl (λ p. let none : number_of (plan_read b) ≡ 0 = ap number_of (outcome_reads_plan b p.0 p.1) in omega arith, one)
 
 pub frame_reads_plan : (b : List ℕ) → Not (number_of (plan_read b) ≡ 0) → plan_of (plan_read b) ≡ zero_plan
 frame_reads_plan b n = go (read_or_refused b)
   where
-    go : (number_of (plan_read b) ≡ 0) ⊎ (plan_read b ≡ refused_plan) → plan_of (plan_read b) ≡ zero_plan
+    go : (number_of (plan_read b) ≡ 0) ⊎ ((plan_read b ≡ refused_plan) × (plan_of (plan_read b) ≡ no_plan)) → plan_of (plan_read b) ≡ zero_plan
     go (inl e) = absurd (n e)
-    go (inr e) = ap plan_of e
+    go (inr e) = e.1
 
 -- ---- the marker's record
 

@@ -7,13 +7,13 @@ use mathlib.Core.List.{List, [], ◌++◌}
 use lib.ListN.{length, drop, length-drop}
 use lib.Dec.{eqb}
 use borrow.Author.Tests.{ltb-true, eq-eqb, eqb-true}
-use Rattle.std.specs.Prelude.{Ok, Err}
+use Rattle.std.specs.Prelude.{Ok, Err, Some, None}
 use Rattle.std.proofs.lemmas.List.{nil_from_length}
 use Rattle.numbers.specs.declared.Refusal.{Refusal}
 use Rattle.numbers.specs.declared.Refusal.TheVariants as refusal
-use Rattle.numbers.specs.Refusals.{number_of}
+use Rattle.numbers.specs.Refusals.{number, number_of}
 use Rattle.numbers.specs.Checks.{Checked, passed, check}
-use Rattle.numbers.specs.Coding.{Bytes, reading_of, coded, row_bytes}
+use Rattle.numbers.specs.Coding.{Bytes, Reading, reading_of, onward, coded, row_bytes}
 use Rattle.numbers.proofs.Checks.{from_range}
 use Rattle.numbers.proofs.Laws.{onward_written, onward_number, split, fits, size, bytes_drop}
 use Rattle.plan.specs.Limits.{most_lines, most_quantum}
@@ -152,3 +152,35 @@ read_in_range s m e = go (record_read s) refl e
           omega (arith, (from_range 1 n.counter most_quantum p.1).1, ap (λ (k : Marker). k.counter) same),
           omega (arith, (fifteen_bytes s n h).1, ap (λ (k : Marker). k.round) same),
         )
+
+-- ---- the numbers that refuse a reading
+
+onward_small : (r : Reading) (s : List ℕ) (next : ℕ → List ℕ → MarkerRead) → ((v : ℕ) (t : List ℕ) → number_of (next v t) ≤ 5)
+    → number_of (onward r s (Err refusal.NoMarker) next) ≤ 5
+onward_small None s next h = omega arith
+onward_small (Some (v, at)) s next h = h v (drop at s)
+
+-- bytes that are not three numbers are refused by 5,
+pub record_number : (s : List ℕ) → number_of (record_read s) ≤ 5
+unfolding record_read
+record_number s =
+    onward_small (reading_of 32 s) s _ (λ line s₁. onward_small (reading_of 32 s₁) s₁ _ (λ round s₂. onward_small (reading_of 32 s₂) s₂ _
+    (λ counter over. end (eqb (length over) 0) (marker_of line round counter))))
+  where
+    end : (t : Bool) (m : Marker) → number_of (cond {A = MarkerRead} t (Ok m) (Err refusal.NoMarker)) ≤ 5
+    end true m = omega arith
+    end false m = omega arith
+
+-- and no reading by more than that
+pub number_small : (s : List ℕ) (k : Refusal) → marker_read s ≡ Err k → number k ≤ 5
+unfolding marker_read judge
+number_small s k e = omega (arith, ap number_of e, go (record_read s) (record_number s))
+  where
+    checked : (m : Marker) (a b : Bool) → number_of (judge (check a refusal.NoMarker (check b refusal.Line passed)) m) ≤ 5
+    checked m true true = omega arith
+    checked m true false = omega arith
+    checked m false b = omega arith
+
+    go : (r : MarkerRead) → number_of r ≤ 5 → number_of (judged read_checks r) ≤ 5
+    go (Ok m) h = checked m (counter_ok m) (line_ok m)
+    go (Err k) h = h

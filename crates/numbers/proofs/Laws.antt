@@ -56,7 +56,7 @@ module _ (w : ℕ) where
   no_room [] some h l = absurd (omega arith)
   no_room (b ∷ s) some h l = simp (le-ltb b 128 h, le-leb w 7 l)
 
-  more_bytes : (s : List ℕ) → 0 < length s → let b = get_or s 0 0 in 128 ≤ b → 7 < w
+  pub more_bytes : (s : List ℕ) → 0 < length s → let b = get_or s 0 0 in 128 ≤ b → 7 < w
       → reading_of w s ≡ joined (b % 128) (reading_of (w - 7) (drop 1 s))
   unfolding reading_of
   more_bytes [] some h l = absurd (omega arith)

@@ -48,6 +48,27 @@ in_range_lem p e =
       quantum_most = λ i h. (from_range p.max (quantum p i) most_quantum (all_at (quantum_ok p) p.lines a.1 i h)).1;
     }
 
+-- the check of a plan, test by test
+module _ (p : Plan) where
+  pub lines_bad : in_range least_lines p.lines most_lines ≡ false → false ≡ plan_ok p
+  unfolding plan_ok
+  lines_bad e = simp e
+
+  module _ (lines : in_range least_lines p.lines most_lines ≡ true) where
+    pub max_bad : in_range least_max p.max most_max ≡ false → false ≡ plan_ok p
+    unfolding plan_ok
+    max_bad e = simp (lines, e)
+
+    module _ (max : in_range least_max p.max most_max ≡ true) where
+      pub interval_bad : in_range least_interval p.interval most_interval ≡ false → false ≡ plan_ok p
+      unfolding plan_ok
+      interval_bad e = simp (lines, max, e)
+
+      -- the quanta are what is left
+      pub quanta_left : in_range least_interval p.interval most_interval ≡ true → all_below (quantum_ok p) p.lines ≡ plan_ok p
+      unfolding plan_ok
+      quanta_left e = simp (lines, max, e)
+
 -- it has sixteen lines at most
 pub few_lines : (p : Plan) → plan_ok p ≡ true → p.lines ≤ most_lines
 few_lines p good = (in_range_lem p good).few_lines

@@ -2,7 +2,7 @@
 use mathlib.Core.Path.{◌≡◌, refl, ap, sym, ◌∙◌}
 use Prim.Native.Nat.{ℕ, zero, suc, ◌-◌, ◌*◌, ◌≤◌, ◌<◌}
 use native.Mathlib.Omega.{arith}
-use mathlib.Core.Logic.{◌⊎◌}
+use mathlib.Core.Logic.{◌⊎◌, inl, inr}
 use mathlib.Core.Bool.{true}
 use mathlib.Core.List.{List, [], ◌∷◌, ◌++◌}
 use lib.ListN.{length, take, get_or, replicate, length-append}
@@ -17,8 +17,8 @@ use Rattle.numbers.proofs.Checks.{check_passed, in_range_lem as is_in_range, fro
 use Rattle.numbers.proofs.Laws.{coded_size_of, accepted}
 use Rattle.plan.specs.declared.Plan.{Plan}
 use Rattle.plan.specs.Limits.{least_lines, most_lines, least_max, most_max, most_quantum, least_interval, most_interval}
-use Rattle.plan.specs.Plan.{quantum, quantum_ok, plan_ok, trimmed}
-use Rattle.plan_record.specs.Record.{bare, refused_plan, within, quanta_read, plan_read, plan_bytes, plan_written}
+use Rattle.plan.specs.Plan.{no_plan, quantum, quantum_ok, plan_ok, trimmed}
+use Rattle.plan_record.specs.Record.{bare, refused_plan, plan_of, within, quanta_read, plan_read, plan_bytes, plan_written}
 use Rattle.plan.proofs.Laws.{in_range_lem}
 use Rattle.plan.proofs.Promises.{session}
 use Rattle.plan_record.proofs.Records.{field_written, field_read, with_quanta, AllFit, quanta_written, quanta_read_lem, onward_settled, quanta_settled, laid, fit_take, fit_at}
@@ -88,14 +88,21 @@ read_is_written s p bytes e =
       sym (ap trimmed is) ∙ planned_trimmed n.0 m.0 k.0 q.row q.count ∙ is,
     )
 
--- Any bytes read, or are refused with number 1 and an all-zero plan.
-pub read_or_refused : (s : List ℕ) → (number_of (plan_read s) ≡ 0) ⊎ (plan_read s ≡ refused_plan)
+settled : (s : List ℕ) → (number_of (plan_read s) ≡ 0) ⊎ (plan_read s ≡ refused_plan)
 unfolding plan_read
-read_or_refused s =
+settled s =
     onward_settled (within least_lines most_lines (reading_of 32 s)) s _ (λ n s₁.
     onward_settled (within least_max most_max (reading_of 32 s₁)) s₁ _ (λ max s₂.
     onward_settled (within least_interval most_interval (reading_of 32 s₂)) s₂ _ (λ interval s₃.
     quanta_settled n 0 (bare n max interval) s₃)))
+
+-- Any bytes read, or are refused with number 1 and an all-zero plan.
+pub read_or_refused : (s : List ℕ) → (number_of (plan_read s) ≡ 0) ⊎ ((plan_read s ≡ refused_plan) × (plan_of (plan_read s) ≡ no_plan))
+read_or_refused s = go (settled s)
+  where
+    go : (number_of (plan_read s) ≡ 0) ⊎ (plan_read s ≡ refused_plan) → (number_of (plan_read s) ≡ 0) ⊎ ((plan_read s ≡ refused_plan) × (plan_of (plan_read s) ≡ no_plan))
+    go (inl read) = inl read
+    go (inr refused) = inr (refused, ap plan_of refused)
 
 -- three bytes for each quantum
 quanta_short : (n : ℕ) (quanta : List ℕ) → ((i : ℕ) → i < n → get_or quanta i 0 ≤ most_quantum) → length (row_bytes (take n quanta)) ≤ 3 * n

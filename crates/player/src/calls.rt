@@ -18,7 +18,7 @@ const MOST_OUTPUT: usize = 2_048;
 const MOST_WORDS: usize = 64;
 
 // Both ends, the store, and how many of its bytes are lent to a call.
-#[derive(Drop)]
+#[derive(Clone, Copy)]
 pub struct Ends {
     sender: Sender,
     receiver: Receiver,

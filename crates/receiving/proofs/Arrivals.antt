@@ -1,16 +1,16 @@
 -- The laws of arrivals: an item that is stored once its ring has come back, and each arrival check by check. Assumes nothing.
 use mathlib.Core.Path.{◌≡◌, refl, ap, sym, ◌∙◌}
-use Prim.Native.Nat.{ℕ, ◌+◌, ◌*◌, ◌≤◌, ◌<◌}
+use Prim.Native.Nat.{ℕ, ◌+◌, ◌-◌, ◌*◌, ◌≤◌, ◌<◌}
 use native.Mathlib.Omega.{arith}
 use mathlib.Core.Bool.{Bool, true, false, cond}
 use mathlib.Core.List.{List}
 use lib.Dec.{ltb}
 use lib.ListN.{length, set}
 use lib.Seq.{set-get_or}
-use borrow.Author.Tests.{le-leb, lt-ltb}
+use borrow.Author.Tests.{leb-true, le-leb, lt-ltb}
 use Rattle.numbers.specs.Checks.{in_range, Checked, passed, checked}
 use Rattle.numbers.proofs.Checks.{check_passed, from_range, by_checks, no_zero, own_passed}
-use Rattle.plan.specs.Limits.{item_head}
+use Rattle.plan.specs.Limits.{most_store, item_head}
 use Rattle.plan.specs.Plan.{quantum}
 use Rattle.marker.specs.declared.Marker.{Marker}
 use Rattle.marker.specs.Marker.{MarkerRead}
@@ -58,6 +58,10 @@ module _ (r : Receiver) (i kind : ℕ) (b store : List ℕ) (here : Place r stor
         let none = room_is false e in
         (rw none refl, ap (back size store start) (ring_is false e) ∙ back_same size store start i starts ∙ rw none refl)
 
+    -- an item that has room ends within its ring
+    pub item_ends : ok ≡ true → used + item_head + length b ≤ most_store
+    item_ends e = omega (arith, here.size_most, leb-true (item_head + length b) (size - used) (room_is true e))
+
     -- line i now holds n bytes
     abbrev pub holding : ℕ → Arrived
     holding n = record {
@@ -77,7 +81,7 @@ module _ (r : Receiver) (i kind : ℕ) (b store : List ℕ) (here : Place r stor
 
 module _ (r : Receiver) (i : ℕ) (b store : List ℕ) (good : receiver_ok r ≡ true) (fits : store_fits r store ≡ true) (line : i < r.plan.lines) where
   -- whatever its own kind of item gives
-  stored : (own : Checked) (kind : ℕ) → own ≡ passed → arrival (room_check r i b) r i kind b store ≡ arrival_of own r i kind b store
+  pub stored : (own : Checked) (kind : ℕ) → own ≡ passed → arrival (room_check r i b) r i kind b store ≡ arrival_of own r i kind b store
   unfolding arrival_of
   stored own kind is = rw (good, fits, lt-ltb i r.plan.lines line, is) refl
 

@@ -1,13 +1,14 @@
 -- The laws of a marker on a line and of its report, test by test. Callers cite these and not the definitions' text. Assumes nothing.
 use Rattle.std.proofs.Common.{◌≡◌, ℕ, ◌<◌, ◌≤◌, Bool, true, false, eqb, ltb, List, sym, refl, ap, ◌∙◌, arith, ltb-false, ltb-true, le-ltb, lt-ltb, eq-eqb, ne_eqb, eqb-true, le-leb}
 use borrow.Author.Tests.{lt-leb}
-use Rattle.numbers.specs.Checks.{passed, in_range}
+use Rattle.numbers.specs.declared.Refusal.TheVariants as refusal
+use Rattle.numbers.specs.Checks.{passed, check, in_range}
 use Rattle.numbers.specs.Wrap.{half}
 use Rattle.numbers.proofs.Checks.{in_range_lem as is_in_range, check_passed, from_range}
 use Rattle.marker.specs.declared.Marker.{Marker}
 use Rattle.std.specs.Prelude.{Ok, Err, Some, None}
 use Rattle.marker.specs.Marker.{MarkerRead, record_read, judge, judged}
-use Rattle.marker.proofs.Laws.{whole_not_refused, judge_passed}
+use Rattle.marker.proofs.Laws.{whole_not_refused, record_number, judge_passed}
 use Rattle.report.specs.Report.{on_checks, marker_on, ahead, missing, Report, report_of}
 use Rattle.numbers.specs.Refusals.{number_of}
 
@@ -45,6 +46,20 @@ pub read_on_line : (line q : ℕ) (s : List ℕ) (m : Marker) → record_read s 
     → marker_on line q s ≡ Ok m
 unfolding marker_on
 read_on_line line q s m e least most own = rw e (sym (both_good line q m (is_in_range 1 m.counter q least most) own))
+
+-- one that is refused there is refused by 5 or 6
+pub on_number_lem : (i q : ℕ) (b : List ℕ) → number_of (marker_on i q b) ≤ 6
+unfolding marker_on judge
+on_number_lem i q b = go (record_read b) (record_number b)
+  where
+    checked : (m : Marker) (s t : Bool) → number_of (judge (check s refusal.NoMarker (check t refusal.OtherLine passed)) m) ≤ 6
+    checked m true true = omega arith
+    checked m true false = omega arith
+    checked m false t = omega arith
+
+    go : (r : MarkerRead) → number_of r ≤ 5 → number_of (judged (on_checks i q) r) ≤ 6
+    go (Ok m) h = checked m (in_range 1 m.counter q) (eqb m.line i)
+    go (Err k) h = omega arith
 
 -- ---- the report
 

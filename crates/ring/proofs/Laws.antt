@@ -4,13 +4,13 @@ use mathlib.Core.Path.{◌≡◌, refl, ap, sym, ◌∙◌}
 use mathlib.Core.Bool.{Bool, true, false, cond}
 use mathlib.Core.List.{List, [], ◌∷◌, ◌++◌, append_assoc, append-nil}
 use mathlib.Core.Logic.{dite}
-use Prim.Native.Nat.{ℕ, min, ◌+◌, ◌-◌, ◌*◌, ◌/◌, ◌%◌, ◌≤◌, ◌<◌}
-use native.Mathlib.Nat.{zero-add, mod-lt, mod_self, mod-mod, mod-eq_of_lt, mod-eq-sub-mod, mod-add-mod}
+use Prim.Native.Nat.{ℕ, min, suc, ◌+◌, ◌-◌, ◌*◌, ◌/◌, ◌%◌, ◌≤◌, ◌<◌}
+use native.Mathlib.Nat.{zero-add, suc-add, mod-lt, mod_self, mod-mod, mod-eq_of_lt, mod-eq-sub-mod, mod-add-mod}
 use native.Mathlib.Decide.{dec_lt}
 use native.Mathlib.Omega.{arith}
 use lib.Dec.{leb}
-use lib.ListN.{length, get_or, take, drop, length-append, length-take, length-drop, take-append-drop, get_or-append}
-use lib.Seq.{take_all, take-nil, take_at, take-length, length-take-le, take-take, take-add, take-append-le, take-append-add, take-append_seam, drop-nil, drop-length, drop-drop, drop-append-le, drop-append-add, drop-append_seam, drop_at, sets-eq, get_or-take, get_or-drop, get_or-append-add}
+use lib.ListN.{length, get_or, take, drop, set, length-append, length-take, length-drop, length-set, take-append-drop, get_or-append}
+use lib.Seq.{take_all, take-nil, take_at, take-length, length-take-le, take-take, take-add, take-append-le, take-append-add, take-append_seam, take-suc, take-set-le, take-set-lt, drop-nil, drop-length, drop-drop, drop-append-le, drop-append-add, drop-append_seam, drop_at, drop-cons, drop-set-lt, drop-set-add, sets-eq, set_at, append_snoc, set-append_left, get_or-take, get_or-drop, get_or-append-add}
 use borrow.Author.Tests.{leb-true, le-leb, lt-leb}
 use Rattle.std.specs.Prelude.{Ok, Some, None}
 use Rattle.numbers.specs.Writing.{written}
@@ -72,6 +72,10 @@ turned_same a x y h n e = sym (turned_back a x h) ∙ rw (e, n) (turned_back a y
 
 -- ---- a byte of a turned list
 
+set-append_add : (x y : List ℕ) (i v : ℕ) → set (x ++ y) (length x + i) v ≡ x ++ set y i v
+set-append_add [] y i v = rw zero-add
+set-append_add (a ∷ x) y i v = rw suc-add (ap (λ (l : List ℕ). a ∷ l) (set-append_add x y i v))
+
 module _ (at i : ℕ) (l : List ℕ) (inside : at < length l) (below : i < length l) where
   -- the place of byte i past the end
   past_end : length l ≤ at + i → (at + i) % length l ≡ at + i - length l
@@ -89,6 +93,19 @@ module _ (at i : ℕ) (l : List ℕ) (inside : at < length l) (below : i < lengt
       ap (λ (k : ℕ). get_or (turned at l) k 0) (past_front h) ∙ get_or-append-add (drop at l) (take at l) (at + i - length l) 0
       ∙ get_or-take at l (at + i - length l) 0 (omega arith) ∙ rw (past_end h))
 
+  -- and one that is set
+  pub turned_set : (v : ℕ) → turned at (set l ((at + i) % length l) v) ≡ set (turned at l) i v
+  turned_set v =
+      dite (dec_lt (at + i) (length l))
+      (λ on.
+      rw (mod-eq_of_lt on, drop-set-add, take-set-le at l (at + i) v (omega arith))
+      (sym (set-append_left (drop at l) (take at l) i v (simp length-drop (omega arith)))))
+      (λ over.
+      let h : length l ≤ at + i = omega arith in
+      let j : at + i - length l < at = omega arith in
+      rw (past_end h, drop-set-lt at l (at + i - length l) v j, take-set-lt at l (at + i - length l) v j)
+      (sym (set-append_add (drop at l) (take at l) (at + i - length l) v) ∙ ap (λ (k : ℕ). set (turned at l) k v) (sym (past_front h))))
+
 -- ---- bytes over the front of others
 
 onto_length : (s d : List ℕ) → length s ≤ length d → length (onto s d) ≡ length d
@@ -104,6 +121,13 @@ pub onto_none : (s d : List ℕ) → length s ≡ 0 → d ≡ onto s d
 onto_none [] d h = refl
 onto_none (a ∷ s) d h = absurd (omega arith)
 
+-- one byte more
+pub onto_next : (s d : List ℕ) (i : ℕ) → i < length s → i < length d → set (onto (take i s) d) i (get_or s i 0) ≡ onto (take (suc i) s) d
+onto_next s d i hs hd =
+    let n : length (take i s) ≡ i = length-take-le i s (omega arith) in
+    let m : length (take (suc i) s) ≡ suc i = length-take-le (suc i) s (omega arith) in
+    rw (n, m, drop-cons d i 0 hd, set_at (take i s) (get_or d i 0) (drop (suc i) d) (get_or s i 0) i n, take-suc s i 0 hs, append_snoc)
+
 -- two runs, the second read from where the first ends
 onto_both : (a b d : List ℕ) → length a + length b ≤ length d → turned (length a) (onto (a ++ b) d) ≡ onto b (turned (length a) (onto a d))
 onto_both a b d h =
@@ -117,6 +141,18 @@ onto_written s out n counted fits end e =
     written_fits s out n counted fits end (e ∙ sym (sets-eq s out 0 (omega arith) ∙ simp zero-add))
 
 -- ---- bytes read from a place on
+
+-- of no bytes
+pub from_none : (ring : List ℕ) (at : ℕ) (out : List ℕ) → out ≡ onto (from_ring ring at 0) out
+unfolding from_ring
+from_none ring at out = refl
+
+-- one byte more
+pub from_next : (ring out : List ℕ) (at i : ℕ) → at < length ring → i < length ring → i < length out
+    → set (onto (from_ring ring at i) out) i (get_or ring ((at + i) % length ring) 0) ≡ onto (from_ring ring at (suc i)) out
+unfolding from_ring
+from_next ring out at i inside below room =
+    rw (← turned_get at i ring inside below) (onto_next (turned at ring) out i (omega (arith, turned_length at ring)) room)
 
 -- a run up to the ring's end, and what is left from its start
 pub from_runs : (ring : List ℕ) (at n : ℕ) → at ≤ length ring → n ≤ length ring
@@ -164,9 +200,26 @@ module _ (ring : List ℕ) (at : ℕ) (s : List ℕ) (inside : at ≤ length rin
       rw back at (turned_back (length ring - at) (onto s (turned at ring)) (omega arith))
 
   -- and only so
-  into_only : (new : List ℕ) → length new ≡ length ring → turned at new ≡ onto s (turned at ring) → new ≡ into_ring ring at s
+  pub into_only : (new : List ℕ) → length new ≡ length ring → turned at new ≡ onto s (turned at ring) → new ≡ into_ring ring at s
   unfolding into_ring
   into_only new n e = sym (turned_back at new (omega arith)) ∙ rw (n, e)
+
+-- no bytes
+pub into_none : (ring : List ℕ) (at : ℕ) → at ≤ length ring → ring ≡ into_ring ring at []
+into_none ring at inside = into_only ring at [] inside (omega arith) ring refl refl
+
+-- one byte more
+pub into_next : (ring : List ℕ) (at : ℕ) (s : List ℕ) (i : ℕ) → at < length ring → length s ≤ length ring → i < length s
+    → set (into_ring ring at (take i s)) ((at + i) % length ring) (get_or s i 0) ≡ into_ring ring at (take (suc i) s)
+into_next ring at s i inside fits h =
+    let now = into_ring ring at (take i s) in
+    let part : length (take i s) ≤ length ring = simp length-take (omega arith) in
+    let more : length (take (suc i) s) ≤ length ring = simp length-take (omega arith) in
+    let n : length now ≡ length ring = into_length ring at (take i s) (omega arith) part in
+    into_only ring at (take (suc i) s) (omega arith) more (set now ((at + i) % length ring) (get_or s i 0)) (simp length-set n)
+    (ap (λ (k : ℕ). turned at (set now ((at + i) % k) (get_or s i 0))) (sym n) ∙ turned_set at i now (omega arith) (omega arith) (get_or s i 0)
+    ∙ ap (λ (l : List ℕ). set l i (get_or s i 0)) (into_turned ring at (take i s) (omega arith) part)
+    ∙ onto_next s (turned at ring) i h (omega (arith, turned_length at ring)))
 
 -- a run that does not come to the ring's end
 into_straight : (ring : List ℕ) (at : ℕ) (s : List ℕ) → at + length s ≤ length ring → take at ring ++ onto s (drop at ring) ≡ into_ring ring at s

@@ -9,6 +9,20 @@ ghost use Rattle.ring.specs.Ring.{from_ring, into_ring, onto, held, room_for, st
 use numbers::Refusal;
 use plan::Plan;
 
+// Copies all of the bytes. `copy_from_slice` would be a call of `memmove`, which whoever links the stage's archive would have to bring. The second way out of the
+// loop, which is never taken, keeps the copy here; it is as quick.
+fn copy(from: &[u8], to: &mut [u8])
+    requires { length from.now ≡ length to.old }
+    ensures { to.new ≡ from.now }
+{
+    for (at, &byte) in from.iter().enumerate() {
+        if at == to.len() {
+            return;
+        }
+        to[at] = byte;
+    }
+}
+
 // The bytes go into the ring from a place on: a run up to its end, and what is left from its start.
 #[tactic(auto, using(crate::proofs::Laws::into_runs))]
 fn lay(ring: &mut [u8], at: usize, bytes: &[u8])
@@ -17,8 +31,8 @@ fn lay(ring: &mut [u8], at: usize, bytes: &[u8])
 {
     let first = bytes.len().min(ring.len() - at);
     let (front, rest) = bytes.split_at(first);
-    ring[at..at + first].copy_from_slice(front);
-    ring[..rest.len()].copy_from_slice(rest);
+    copy(front, &mut ring[at..at + first]);
+    copy(rest, &mut ring[..rest.len()]);
 }
 
 // Bytes of the ring from a place on, in two runs likewise, to the front of out.
@@ -28,8 +42,8 @@ fn lift(ring: &[u8], at: usize, n: usize, out: &mut [u8])
     ensures { out.new ≡ onto (from_ring ring.now at n) out.old }
 {
     let first = n.min(ring.len() - at);
-    out[..first].copy_from_slice(&ring[at..at + first]);
-    out[first..n].copy_from_slice(&ring[..n - first]);
+    copy(&ring[at..at + first], &mut out[..first]);
+    copy(&ring[..n - first], &mut out[first..n]);
 }
 
 // Stores an item behind the used bytes from head on. Answers whether there was room; without it no byte changes.

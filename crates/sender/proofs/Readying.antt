@@ -20,6 +20,10 @@ in_reach s good =
     let p = in_range_lem s.plan v.plan in
     (good, v.is_line, p.few_lines, v.countdown_least, v.counter_most s.line v.is_line, p.quantum_most s.line v.is_line)
 
+-- so it is ready for every charge that its line's counter and quantum cover
+pub ready_for : (s : Sender) → sender_ok s ≡ true → (c : ℕ) → c < at s.counters s.line + quantum s.plan s.line → Ready s c
+ready_for s good c h = let r = in_reach s good in (r.1, r.2, r.3, r.4, r.5, h)
+
 module _ (s : Sender) (length : ℕ) where
   -- the charge of a packet that passes its checks
   pub passes : {charge : ℕ} → charged s length ≡ Ok charge → (send_checks s length ≡ passed) × (charge_now s length ≡ charge)

@@ -100,7 +100,8 @@ fn go(s: Sender, charge: u32) -> SendResult
     }
 }
 
-// What a packet of that length is charged on the current line. Refused: 2, 4, 10.
+// What a packet of that length is charged on the current line. Refused: 2, 4, 10. Here and in `marker_from` what has a place for each line is taken out of the
+// state before one place is read: to read it in the state, all of it would be copied, by `memcpy`, which the booth's archive does without.
 #[tactic(auto, using(crate::proofs::Readying::in_reach), unfolding(sending::specs::Sender::send_checks))]
 fn charged(s: Sender, length: usize) -> Result<u32, Refusal>
     ensures { result ≡ charged s length }
@@ -111,9 +112,15 @@ fn charged(s: Sender, length: usize) -> Result<u32, Refusal>
     if !(1..=s.plan.max as usize).contains(&length) {
         return Err(Refusal::Length);
     }
-    let i = s.line as usize;
-    let charge = plan::charge(plan::line_plan(s.plan, s.line), length as u32);
-    if s.counters[i] + s.plan.quanta[i] <= charge {
+    let Sender {
+        plan,
+        line,
+        counters,
+        ..
+    } = s;
+    let i = line as usize;
+    let charge = plan::charge(plan::line_plan(plan, line), length as u32);
+    if counters[i] + plan.quanta[i] <= charge {
         return Err(Refusal::Counter);
     }
     Ok(charge)
@@ -144,11 +151,16 @@ pub fn marker_from(s: Sender, line: u32, out: &mut [u8]) -> Result<usize, Refusa
     if s.plan.lines <= line {
         return Err(Refusal::Line);
     }
+    let Sender {
+        rounds,
+        counters,
+        ..
+    } = s;
     let i = line as usize;
     let m = Marker {
         line,
-        round: s.rounds[i],
-        counter: s.counters[i],
+        round: rounds[i],
+        counter: counters[i],
     };
     marker::write_record(m, out)
 }

@@ -3,11 +3,11 @@ use borrow.Author.Tests.{lt-ltb, le-ltb, eq-eqb, ne_eqb}
 use native.Mathlib.Numerals.{add-one}
 use native.Mathlib.Nat.{zero-add}
 use native.Mathlib.Omega.{arith}
-use mathlib.Core.Path.{◌≡◌, refl, sym, ◌∙◌}
+use mathlib.Core.Path.{◌≡◌, refl, ap, sym, ◌∙◌}
 use mathlib.Core.Bool.{true, false}
 use mathlib.Core.List.{List, [], ◌++◌}
 use Prim.Native.Nat.{ℕ, ◌+◌, ◌-◌, ◌≤◌, ◌<◌}
-use lib.ListN.{length, get_or, drop, length-append, drop_of_length-le}
+use lib.ListN.{length, get_or, drop, length-append, length-drop, drop_of_length-le}
 use lib.Seq.{drop-cons, sets, sets-eq}
 use Rattle.numbers.proofs.Laws.{sets-append}
 use Rattle.text.specs.Text.{line_feed}
@@ -19,6 +19,10 @@ use Rattle.session.specs.Session.{Fed, open_line, line_made, line_ends, keep_byt
 -- a text at the front of the output
 pub front : (text out : List ℕ) → length text ≤ length out → sets out 0 text ≡ text ++ drop (length text) out
 front text out h = sets-eq text out 0 (omega arith) ∙ simp zero-add
+
+-- and a text that is there fits
+pub front_fits : (text out after : List ℕ) → after ≡ text ++ drop (length text) out → length after ≡ length out → length text ≤ length out
+front_fits text out after e same = omega (arith, ap length e ∙ length-append text (drop (length text) out), length-drop (length text) out)
 
 -- ---- a byte
 

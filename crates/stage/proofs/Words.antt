@@ -18,7 +18,7 @@ use Rattle.receiving.specs.Takes.{RunEnd, takes_of}
 use Rattle.receiving.specs.declared.Ended.TheVariants as ended
 use Rattle.receiving.specs.Receiver.{open_receiver}
 use Rattle.receiving.specs.Arriving.{data_arrival, marker_arrival}
-use Rattle.taking.specs.Words.{taken_word, ended_word}
+use Rattle.taking.specs.Words.{word_by, ended_by, taken_word, ended_word}
 use Rattle.taking.proofs.Words.{Told, EndTold, take_told, run_stops}
 use Rattle.stage.specs.Exports.{stage_run, kind_in, value_in, read_taken, read_ended}
 use Rattle.numbers.specs.Refusals.{number, number_of}
@@ -33,6 +33,10 @@ take_figures line n k = (refl, refl, refl, refl, refl)
 
 pub end_figures : (line : ℕ) (k : Refusal) → (ended_word (Ok ended.Full) ≡ 64) × (ended_word (Ok (ended.Waiting line)) ≡ 48 + line) × (ended_word (Err k) ≡ 256 + number k)
 end_figures line k = (refl, refl, refl)
+
+-- and of a refusal that is told by any number
+pub number_figures : (k : ℕ) → (word_by {R = ℕ} (λ k. k) (Err k) ≡ 256 + k) × (ended_by {R = ℕ} (λ k. k) (Err k) ≡ 256 + k)
+number_figures k = (refl, refl)
 
 -- ---- openings and arrivals
 

@@ -1,5 +1,5 @@
 -- The laws of what a row of numbers makes: the plan, and the outcome of a line. Assumes nothing.
-use Rattle.std.proofs.Common.{subst, Ok, Some, None, ◌≡◌, ℕ, zero, suc, ◌+◌, ◌-◌, ◌<◌, ◌≤◌, Bool, true, false, cond, ◌&&◌, eqb, leb, List, [], ◌∷◌, ◌++◌, map, length, get_or, take, drop, replicate, sym, refl, ap, ◌∙◌, arith, length-append, length-drop, length-take, get_or-drop, get_or-take, ext_get_or, ne_eqb, eqb-true, leb-false, leb-true}
+use Rattle.std.proofs.Common.{subst, Ok, Some, None, ◌≡◌, ℕ, zero, suc, ◌+◌, ◌-◌, ◌<◌, ◌≤◌, Bool, true, false, cond, ◌&&◌, eqb, leb, List, [], ◌∷◌, ◌++◌, map, length, get_or, take, drop, set, replicate, sym, refl, ap, ◌∙◌, add-one, arith, length-append, length-drop, length-take, get_or-drop, take_all, get_or-take, take-suc, take-suc-set, ext_get_or, ne_eqb, eqb-true, leb-false, leb-true}
 use native.Mathlib.Decide.{dec_lt}
 use denote.Param.Members.{Mut, Called}
 use Rattle.std.specs.Array.{IsFromFnResult, IsFromFnResultFrom}
@@ -54,6 +54,20 @@ module _ (values : List ℕ) where
     quanta_made quanta size each =
         ext_get_or 0 quanta (map narrow (drop 3 values)) (size ∙ sym sixteen) (λ i h. each i (omega arith) ∙ sym (quantum_at i))
 
+    -- one more quantum
+    pub quantum_stored : (quanta : List ℕ) (i v : ℕ) → length quanta ≡ most_lines → i < most_lines → v ≡ narrow (get_or values (3 + i) 0)
+        → take i quanta ≡ take i (map narrow (drop 3 values)) → take (i + 1) (set quanta i v) ≡ take (i + 1) (map narrow (drop 3 values))
+    quantum_stored quanta i v size more e h =
+        let inside : i < length quanta = omega arith in
+        let there : i < length (map narrow (drop 3 values)) = omega (arith, sixteen) in
+        rw (add-one i, take-suc-set quanta i v inside, take-suc (map narrow (drop 3 values)) i 0 there, h, quantum_at i, e)
+
+    -- and sixteen of them
+    pub quanta_stored : (quanta : List ℕ) (i : ℕ) → length quanta ≡ most_lines → most_lines ≤ i
+        → take i quanta ≡ take i (map narrow (drop 3 values)) → quanta ≡ map narrow (drop 3 values)
+    quanta_stored quanta i size end h =
+        sym (take_all i quanta (omega arith)) ∙ h ∙ take_all i (map narrow (drop 3 values)) (omega (arith, sixteen))
+
 -- zeros behind numbers are not seen
 none : (k i : ℕ) → ◌≡◌ {A = ℕ} (get_or (replicate k 0) i 0) 0
 none zero i = refl
@@ -102,7 +116,7 @@ plan_over ns h = go (eqb (length ns) (3 + (plan_of ns).lines)) refl (plan_ok (pl
     go true p false q = refl
     go false p b q = refl
 
-plan_made_lem : (t : Table) (s : Said) → made_at PlanToCome t (row_of s) ≡ plan_line t s
+pub plan_made_lem : (t : Table) (s : Said) → made_at PlanToCome t (row_of s) ≡ plan_line t s
 unfolding plan_made plan_line plan_good row_of
 plan_made_lem t bad_text = refl
 plan_made_lem t (numbers ns) = go (leb (length ns) most_numbers) refl
@@ -114,7 +128,7 @@ plan_made_lem t (numbers ns) = go (leb (length ns) most_numbers) refl
     go true e = ap made (plan_is ns (leb-true (length ns) most_numbers e))
     go false e = rw (plan_over ns (leb-false (length ns) most_numbers e))
 
-packet_made_lem : (t : Table) (s : Said) → made_at Packets t (row_of s) ≡ packet_line t s
+pub packet_made_lem : (t : Table) (s : Said) → made_at Packets t (row_of s) ≡ packet_line t s
 unfolding packet_made packet_line row_of
 packet_made_lem t bad_text = refl
 packet_made_lem t (numbers []) = refl

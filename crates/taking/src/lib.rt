@@ -11,8 +11,10 @@ ghost use Rattle.receiving.specs.Receiver.{line_of, receiver_ok, store_fits};
 ghost use Rattle.receiving.specs.Taking.{past, charged_turn, data_head, marker_head, item_on, told_step, line_step, round_now, with_line, take_of};
 ghost use Rattle.receiving.specs.Takes.{bytes_of, end_of, goes_on, takes_of};
 ghost use Rattle.receiving.specs.Ready.{Ready};
-ghost use Rattle.taking.specs.Words.{taken_word, ended_word};
+ghost use Rattle.answers.specs.Answers.{refusal};
+ghost use Rattle.taking.specs.Words.{word_by, ended_by, taken_word};
 
+use answers::Numbered;
 use marker::Marker;
 use numbers::Refusal;
 use plan::{LinePlan, Plan};
@@ -325,10 +327,17 @@ fn bytes_of(answer: Result<Taken, Refusal>) -> usize
     }
 }
 
-// Any take's answer as a word of 64 bits: its line, 16 times what it was, and 512 times a length or the bytes missing; or a refusal, by the rule of
-// the crate `answers`. A take's own answers all fit.
-pub fn word_of(answer: Result<Taken, Refusal>) -> u64
-    ensures { result ≡ taken_word answer % 2 ^ 64 }
+// A refusal as a word, by the rule of the crate `answers`, whatever tells its number.
+fn refused_word<R: Numbered>(by: R) -> u64
+    ensures { result ≡ refusal (R.number_told by) }
+{
+    256 + by.told_number() as u64
+}
+
+// Any take's answer as a word of 64 bits: its line, 16 times what it was, and 512 times a length or the bytes missing; or a refusal. A take's
+// own answers all fit.
+pub fn word_of<R: Numbered>(answer: Result<Taken, R>) -> u64
+    ensures { result ≡ word_by R.number_told answer % 2 ^ 64 }
 {
     match answer {
         Ok(Taken::Data(line, n)) => line as u64 + 512 * n as u64,
@@ -337,18 +346,18 @@ pub fn word_of(answer: Result<Taken, Refusal>) -> u64
         }
         Ok(Taken::Behind(line)) => 32 + line as u64,
         Ok(Taken::Waiting(line)) => 48 + line as u64,
-        Err(refusal) => 256 + refusal.number() as u64,
+        Err(refusal) => refused_word(refusal),
     }
 }
 
 // How a run ended as a word (a function with a name, as is a take's: `from` would not say which word): 64, a kind of its own, where the log is full; else the word of the take that stopped it.
-pub fn ended_word(ended: Result<Ended, Refusal>) -> u64
-    ensures { result ≡ ended_word ended }
+pub fn ended_word<R: Numbered>(ended: Result<Ended, R>) -> u64
+    ensures { result ≡ ended_by R.number_told ended }
 {
     match ended {
         Ok(Ended::Full) => 64,
-        Ok(Ended::Waiting(line)) => word_of(Ok(Taken::Waiting(line))),
-        Err(refusal) => word_of(Err(refusal)),
+        Ok(Ended::Waiting(line)) => word_of::<R>(Ok(Taken::Waiting(line))),
+        Err(refusal) => refused_word(refusal),
     }
 }
 

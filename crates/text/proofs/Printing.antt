@@ -1,5 +1,5 @@
 -- The laws of a number's decimal digits, and of texts put one after another. Assumes nothing.
-use borrow.Author.Tests.{lt-ltb, le-ltb, ltb-false, le-leb}
+use borrow.Author.Tests.{lt-ltb, le-ltb, ltb-false, le-leb, lt-leb}
 use native.Mathlib.Nat.{pow-suc}
 use native.Mathlib.Omega.{arith}
 use mathlib.Core.Path.{◌≡◌, refl, ap, sym, ◌∙◌}
@@ -107,6 +107,16 @@ copied text out at h =
     rw (size, sets-eq text out at h, append_assoc, drop-drop)
 
 module _ (text out : List ℕ) (at : ℕ) {r : ℕ} {after : List ℕ} where
+  -- one that does not fit leaves all as it was,
+  pub put_over : length out < at + length text → r ≡ at → after ≡ out → PutWhereFits text at out r after
+  unfolding placed
+  put_over h e f = simp (lt-leb (at + length text) (length out) h) (e, f)
+
+  -- and one that fits is put
+  pub put_fits : at + length text ≤ length out → Put text at out r after → PutWhereFits text at out r after
+  unfolding placed
+  put_fits h p = simp (le-leb (at + length text) (length out) h) p
+
   pub fits_put : at + length text ≤ length out → PutWhereFits text at out r after → Put text at out r after
   unfolding placed
   fits_put h p = simp (le-leb (at + length text) (length out) h) at p

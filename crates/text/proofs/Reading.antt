@@ -1,17 +1,17 @@
 -- The laws of reading a line's numbers, byte by byte. Assumes nothing.
-use borrow.Author.Tests.{le-leb, lt-leb, le-ltb, lt-ltb, eq-eqb, ne_eqb}
+use borrow.Author.Tests.{eqb-false, le-leb, lt-leb, le-ltb, lt-ltb, eq-eqb, ne_eqb}
 use native.Mathlib.Numerals.{add-one}
-use native.Mathlib.Nat.{pow-suc}
+use native.Mathlib.Nat.{pow-suc, pow-le-pow_right}
 use native.Mathlib.Omega.{arith}
 use mathlib.Core.Path.{◌≡◌, refl, ap, sym, ◌∙◌}
-use mathlib.Core.Bool.{Bool, true, false, ◌&&◌, cond}
+use mathlib.Core.Bool.{Bool, true, false, ◌&&◌, ◌||◌, cond}
 use mathlib.Core.List.{List, [], ◌∷◌, ◌++◌}
 use Rattle.std.specs.Prelude.{Some, None}
 use Prim.Native.Nat.{ℕ, suc, ◌+◌, ◌-◌, ◌*◌, ◌^◌, ◌≤◌, ◌<◌}
 use lib.Dec.{ltb, leb, eqb}
 use lib.ListN.{length, get_or, take, drop, set, replicate, length-append, length-set, length-take, drop_of_length-le, take-append-drop}
 use lib.Seq.{drop-cons, drop-drop, drop-set-lt, take-suc-set, length-take-le}
-use Rattle.numbers.proofs.Checks.{from_range}
+use Rattle.numbers.proofs.Checks.{never, from_range}
 use Rattle.text.specs.Text.{space, is_digit, most_digits, numbers, bad_text, said_from}
 use Rattle.text.specs.Rows.{most_numbers, row_of}
 
@@ -32,6 +32,14 @@ row_over (b ∷ rest) before k v h =
     go true false u p q = refl
     go false t true p q = q
     go false t false p q = refl
+
+-- a space ends a number, and there is room for one more
+pub neither : (k count : ℕ) → (eqb k 0 || eqb (count + 1) most_numbers) ≡ false → (1 ≤ k) × (count + 1 ≡ most_numbers → ⊥)
+neither k count h = go (eqb k 0) refl h
+  where
+    go : (t : Bool) → eqb k 0 ≡ t → (t || eqb (count + 1) most_numbers) ≡ false → (1 ≤ k) × (count + 1 ≡ most_numbers → ⊥)
+    go true q h = absurd (never h)
+    go false q h = (omega (arith, eqb-false k 0 q), eqb-false (count + 1) most_numbers h)
 
 -- what a byte does to the numbers so far, and what the end of the line does
 module _ (line before : List ℕ) (i k v : ℕ) where
@@ -64,6 +72,11 @@ module _ (line before : List ℕ) (i k v : ℕ) where
       unfolding row_of said_from
       at_digit_over e h = rw (drop-cons line i 0 more) (simp (ne_eqb (get_or line i 0) space other, e, le-ltb k most_digits h))
 
+      -- neither a space nor a digit of the number
+      pub at_other : is_digit (get_or line i 0) && ltb k most_digits ≡ false → said_from before k v (drop i line) ≡ bad_text
+      unfolding said_from
+      at_other h = rw (drop-cons line i 0 more) (simp (ne_eqb (get_or line i 0) space other, h))
+
   module _ (end : length line ≤ i) where
     pub at_end : 1 ≤ k → said_from before k v (drop i line) ≡ numbers (before ++ (v ∷ []))
     unfolding said_from
@@ -72,6 +85,11 @@ module _ (line before : List ℕ) (i k v : ℕ) where
     pub at_bad_end : k ≡ 0 → None ≡ row_of (said_from before k v (drop i line))
     unfolding row_of said_from
     at_bad_end h = rw (drop_of_length-le line end) (simp h)
+
+    -- where no number ends, the line is bad text
+    pub at_no_end : k ≡ 0 → said_from before k v (drop i line) ≡ bad_text
+    unfolding said_from
+    at_no_end h = rw (drop_of_length-le line end) (simp h)
 
 -- ---- the row: the numbers so far, and zeros behind them
 
@@ -99,6 +117,10 @@ module _ (values : List ℕ) (count v : ℕ) (all : length values ≡ most_numbe
 -- one more digit
 pub digit_fits : (k v b : ℕ) → is_digit b ≡ true → v < 10 ^ k → v * 10 + (b - 48) < 10 ^ (k + 1)
 digit_fits k v b e h = rw (add-one k) (omega (arith, pow-suc 10 k, from_range 48 b 57 e))
+
+-- a number that has room for one more digit is below 10^9
+pub number_fits : (k v : ℕ) → v < 10 ^ k → k < most_digits → v < 1000000000
+number_fits k v h f = omega (arith, pow-le-pow_right {n = 10} (omega arith) {i = k} {j = 9} (omega arith))
 
 -- what a reader of a line goes by
 pub ruleset byte_by_byte = (at_space, at_second_space, at_space_full, at_digit, at_no_digit, at_digit_over, at_end, at_bad_end, stored_front, stored_back, last_stored, digit_fits, length-set, length-take)

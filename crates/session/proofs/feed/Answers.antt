@@ -5,7 +5,7 @@ use lib.Seq.{sets}
 use Rattle.session.specs.Session.{Fed, byte_of, feed_of}
 use Rattle.session.proofs.Feeding.{byte_ended, byte_line, byte_kept, Left, left_all, turn, line_ended, feed_done, feed_full, left_none}
 use Rattle.session.proofs.feed.Goals as goal
-use Rattle.session.proofs.feed.Goals.{Else-out-wrote-lt-MOST_TEXT, then-b-eq10, else-b-eq10}
+use Rattle.session.proofs.feed.Goals.{Else-out-wrote-lt-MOST_TEXT}
 
 -- a byte is used, and its text is stored
 onward :
@@ -26,17 +26,18 @@ pub loop-used-preserved-then-has_ended : goal.loop-used-preserved-then-has_ended
 loop-used-preserved-then-has_ended c =
     (c.loop-used.invariant.0, onward (goal.at.loop-used-preserved-then-has_ended c).Else-out-wrote-lt-MOST_TEXT _ c.loop-used.out c.loop-used.wrote (byte_ended c.loop-used.session _ (sym c.if-has_ended.ensures)) refl (omega arith))
 
+pub loop-used-preserved-then-b-ne10 : goal.loop-used-preserved-then-b-ne10
+loop-used-preserved-then-b-ne10 c =
+    let s = c.loop-used.session in
+    let going = sym c.if-has_ended.ensures in
+    rw c.keep_byte.ensures (c.loop-used.invariant.0, onward (goal.at.loop-used-preserved-then-b-ne10 c).Else-out-wrote-lt-MOST_TEXT _ c.loop-used.out c.loop-used.wrote (byte_kept s _ going c.if-b-ne10.true) refl (omega arith))
+
 pub loop-used-preserved : goal.loop-used-preserved
 loop-used-preserved c =
     let s = c.loop-used.session in
     let going = sym c.if-has_ended.ensures in
-    elim c.if-b-eq10.branch [
-      | then-b-eq10 w ↦
-          let q = w.end_line-step.ensures in
-          rw (w.out-is, w.session-is, w.wrote-is) (omega (arith, q.1, q.3, c.if-out-wrote-lt-MOST_TEXT.false), onward (goal.at.loop-used-preserved c).Else-out-wrote-lt-MOST_TEXT _ _ _ (byte_line s _ going w.if-b-eq10.true ∙ line_ended s _ q.0) q.2 q.1)
-      | else-b-eq10 w ↦
-          rw (w.out-is, w.session-is, w.wrote-is, w.keep_byte.ensures) (c.loop-used.invariant.0, onward (goal.at.loop-used-preserved c).Else-out-wrote-lt-MOST_TEXT _ c.loop-used.out c.loop-used.wrote (byte_kept s _ going w.if-b-eq10.false) refl (omega arith))
-    ]
+    let q = c.end_line-step.ensures in
+    (omega (arith, q.1, q.3, c.if-out-wrote-lt-MOST_TEXT.false), onward (goal.at.loop-used-preserved c).Else-out-wrote-lt-MOST_TEXT _ _ _ (byte_line s _ going c.if-b-ne10.false ∙ line_ended s _ q.0) q.2 q.1)
 
 pub returns : goal.returns
 returns c =
