@@ -8,7 +8,7 @@ ghost use Rattle.answers.specs.Answers as answers;
 
 use numbers::Refusal;
 
-// What a refusal is told by: one of the table, or any number.
+// What tells a refusal's number: one of the table, or the number itself.
 pub trait Numbered {
     ghost number_told: { Self → ℕ };
 
@@ -20,7 +20,7 @@ impl Numbered for Refusal {
     ghost number_told = { number };
 
     fn told_number(self) -> u32 {
-        self.number()
+        Refusal::number(self)
     }
 }
 

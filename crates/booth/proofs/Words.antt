@@ -7,11 +7,11 @@ use mathlib.Core.Bool.{true, false}
 use mathlib.Core.List.{List}
 use borrow.Author.Tests.{eq-eqb, ne_eqb}
 use Rattle.numbers.specs.Coding.{Reading, reading_of, coded}
-use Rattle.std.specs.Prelude.{Bool, true, false, eqb, Some, None, Ok, Err}
+use Rattle.std.specs.Prelude.{Bool, true, false, cond, eqb, Some, None, Ok, Err}
 use Rattle.numbers.specs.Writing.{Written, length_of}
 use Rattle.numbers.specs.Writing as writing
 use Rattle.numbers.proofs.Laws.{place, size}
-use Rattle.answers.specs.Answers.{refusal, told, told_in, line_in}
+use Rattle.answers.specs.Answers.{refusal, told, refused_in, number_in, told_in, line_in}
 use Rattle.answers.proofs.Laws.{refusal_read, refusal_back, bit_8_clear, below_256, answer_back}
 use Rattle.plan.specs.declared.Plan.{Plan}
 use Rattle.plan.specs.Limits.{most_lines, most_quantum}
@@ -25,6 +25,7 @@ use Rattle.sending.proofs.Promises.{sent_on_line}
 use Rattle.booth.specs.Exports.{exported, written_in, exported_reading, reading_in, exported_marker, marker_in, exported_sent, sent_in}
 use Rattle.booth.proofs.Small.{value_short, plan_short, written_short, asked_short}
 use Rattle.numbers.specs.Refusals.{number, number_of}
+use Rattle.numbers.proofs.Checks.{never, small}
 use Rattle.numbers.specs.declared.Refusal.{Refusal}
 
 -- ---- in figures, as include/booth.h has them
@@ -161,6 +162,22 @@ sent_reads_back s n = sent_told (send_of s n).answer (go (send_of s n).answer re
     go : (t : Sent) → (send_of s n).answer ≡ t → ToldSent t
     go (Ok went) e = omega (arith, sent_on_line s n went.line went.due e)
     go (Err k) e = tt
+
+-- and the number of a refused one is the table's, whichever it is
+pub sent_number : (s : Sender) (n : ℕ) → refused_in (exported_sent (send_of s n).answer) ≡ true
+    → number_in (exported_sent (send_of s n).answer) ≡ number_of (send_of s n).answer
+sent_number s n = go (send_of s n).answer refl
+  where
+    flag : (due : Bool) → cond due 16 0 ≤ 16
+    flag true = omega arith
+    flag false = omega arith
+
+    go : (t : Sent) → (send_of s n).answer ≡ t → refused_in (exported_sent (send_of s n).answer) ≡ true
+        → number_in (exported_sent (send_of s n).answer) ≡ number_of (send_of s n).answer
+    go (Ok went) e h =
+        let low : went.line + cond went.due 16 0 < 256 = omega (arith, sent_on_line s n went.line went.due e, flag went.due) in
+        absurd (never (sym h ∙ ap (λ (t : Sent). refused_in (exported_sent t)) e ∙ below_256 (went.line + cond went.due 16 0) low))
+    go (Err k) e h = ap (λ (t : Sent). number_in (exported_sent t)) e ∙ (refusal_read (number k) (omega (arith, small k))).1 ∙ sym (ap number_of e)
 
 -- ---- of a refusal C's macros give nothing that there is: no place, no line, no counter; and no markers are due
 pub refusal_says_nothing : (k : ℕ) → k < 256 → let w = refusal k in (256 ≤ w % 512) × (256 ≤ line_in w) × (w % 4294967296 / 512 ≡ 0)

@@ -47,7 +47,7 @@ pub read_on_line : (line q : ℕ) (s : List ℕ) (m : Marker) → record_read s 
 unfolding marker_on
 read_on_line line q s m e least most own = rw e (sym (both_good line q m (is_in_range 1 m.counter q least most) own))
 
--- one that is refused there is refused by 5 or 6
+-- one that is refused there is refused by 6 at most
 pub on_number_lem : (i q : ℕ) (b : List ℕ) → number_of (marker_on i q b) ≤ 6
 unfolding marker_on judge
 on_number_lem i q b = go (record_read b) (record_number b)

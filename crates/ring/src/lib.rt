@@ -10,7 +10,7 @@ use numbers::Refusal;
 use plan::Plan;
 
 // Copies all of the bytes. `copy_from_slice` would be a call of `memmove`, which whoever links the stage's archive would have to bring. The second way out of the
-// loop, which is never taken, keeps the copy here; it is as quick.
+// loop is never taken; without it the compiler makes the same call of the loop.
 fn copy(from: &[u8], to: &mut [u8])
     requires { length from.now ≡ length to.old }
     ensures { to.new ≡ from.now }

@@ -101,7 +101,7 @@ fn go(s: Sender, charge: u32) -> SendResult
 }
 
 // What a packet of that length is charged on the current line. Refused: 2, 4, 10. Here and in `marker_from` what has a place for each line is taken out of the
-// state before one place is read: to read it in the state, all of it would be copied, by `memcpy`, which the booth's archive does without.
+// state first: read in the state, it would have all of it copied by `memcpy`, which the booth's archive does without.
 #[tactic(auto, using(crate::proofs::Readying::in_reach), unfolding(sending::specs::Sender::send_checks))]
 fn charged(s: Sender, length: usize) -> Result<u32, Refusal>
     ensures { result ≡ charged s length }
