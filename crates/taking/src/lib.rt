@@ -12,7 +12,7 @@ ghost use Rattle.receiving.specs.Taking.{past, charged_turn, data_head, marker_h
 ghost use Rattle.receiving.specs.Takes.{bytes_of, end_of, goes_on, takes_of};
 ghost use Rattle.receiving.specs.Ready.{Ready};
 ghost use Rattle.answers.specs.Answers.{refusal};
-ghost use Rattle.taking.specs.Words.{word_by, ended_by, taken_word};
+ghost use Rattle.taking.specs.Words.{word_by, ended_by};
 
 use answers::Numbered;
 use marker::Marker;
