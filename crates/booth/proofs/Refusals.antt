@@ -1,7 +1,7 @@
 -- A call that answers what C reads as a refusal leaves everything that it was lent as it was, but that a refused opening and a refused plan leave
 -- zeros. Assumes nothing.
 use mathlib.Core.Path.{◌≡◌, refl, ap, sym, ◌∙◌}
-use Prim.Native.Nat.{ℕ, ◌+◌, ◌≤◌, ◌<◌}
+use Prim.Native.Nat.{ℕ, ◌≤◌, ◌<◌}
 use native.Mathlib.Omega.{arith}
 use mathlib.Core.Bool.{Bool, true, false, cond}
 use mathlib.Core.Logic.{◌⊎◌, inl, inr}
@@ -24,9 +24,9 @@ use Rattle.marker.specs.declared.Marker.{Marker}
 use Rattle.marker.specs.Marker.{marker_of, marker_bytes, marker_written}
 use Rattle.sending.specs.declared.Sender.{Sender}
 use Rattle.sending.specs.Sender.{SenderOpened, Sent, closed_sender, opened_sender, open_sender, send_of, line_marker, marker_from, sender_of}
-use Rattle.sending.proofs.Promises.{refused_stays, sent_on_line}
+use Rattle.sending.proofs.Promises.{refused_stays}
 use Rattle.booth.specs.Exports.{exported, exported_sent, copied}
-use Rattle.booth.proofs.Small.{marker_short}
+use Rattle.booth.proofs.Small.{marker_short, goes_unrefused}
 use Rattle.numbers.specs.Refusals.{number_of}
 use Rattle.numbers.specs.declared.Refusal.TheVariants as refusal
 use Rattle.numbers.specs.Checks.{Checked}
@@ -65,14 +65,8 @@ copy_refused s out = plan_refused (plan_of (plan_read s)) out
 pub send_refused : (s : Sender) (n : ℕ) → refused_in (exported_sent (send_of s n).answer) ≡ true → (send_of s n).next ≡ s
 send_refused s n = go (send_of s n).answer refl
   where
-    flag : (due : Bool) → cond due 16 0 ≤ 16
-    flag true = omega arith
-    flag false = omega arith
-
     go : (t : Sent) → (send_of s n).answer ≡ t → refused_in (exported_sent (send_of s n).answer) ≡ true → (send_of s n).next ≡ s
-    go (Ok went) e h =
-        let small : went.line + cond went.due 16 0 < 256 = omega (arith, sent_on_line s n went.line went.due e, flag went.due) in
-        absurd (never (sym h ∙ ap (λ (t : Sent). refused_in (exported_sent t)) e ∙ below_256 (went.line + cond went.due 16 0) small))
+    go (Ok went) e h = absurd (never (sym h ∙ goes_unrefused s n went e))
     go (Err k) e h = refused_stays s n k e
 
 pub read_refused : (b : List ℕ) → refused_in (told (number_of (plan_read b))) ≡ true → plan_of (plan_read b) ≡ no_plan

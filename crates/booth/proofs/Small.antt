@@ -1,6 +1,8 @@
--- Every length that C is told is below 256, and what a send answers fits. Assumes nothing.
+-- Every length that C is told is below 256, and what a send answers fits; one that goes is no refusal. Assumes nothing.
 use mathlib.Core.Path.{◌≡◌, refl}
-use Prim.Native.Nat.{ℕ, ◌≤◌, ◌<◌, ◌^◌}
+use Rattle.answers.specs.Answers.{refused_in}
+use Rattle.answers.proofs.Laws.{below_256}
+use Prim.Native.Nat.{ℕ, ◌+◌, ◌≤◌, ◌<◌, ◌^◌}
 use native.Mathlib.Omega.{arith}
 use mathlib.Core.Bool.{Bool, true, false, cond}
 use mathlib.Core.List.{List, [], ◌∷◌}
@@ -19,8 +21,10 @@ use Rattle.plan_record.proofs.Promises.{fifty_four_bytes}
 use Rattle.marker.specs.declared.Marker.{Marker}
 use Rattle.marker.specs.Marker.{marker_of, marker_bytes, marker_written}
 use Rattle.sending.specs.declared.Sender.{Sender}
+use Rattle.sending.specs.declared.Went.{Went}
 use Rattle.sending.specs.Sender.{Sent, send_of, line_marker, marker_from}
 use Rattle.sending.proofs.Laws.{line_small}
+use Rattle.sending.proofs.Promises.{sent_on_line}
 use Rattle.booth.specs.Exports.{exported_sent}
 
 outcome_short : (row : Checked) (bytes out : List ℕ) → length bytes ≤ 99 → length_of (outcome row bytes out).answer < 256
@@ -54,13 +58,17 @@ asked_short s i out = outcome_short _ (line_marker s i) out (marker_short (marke
 
 -- ---- a send: one of sixteen lines, or a refusal
 
+due_small : (due : Bool) → cond due 16 0 ≤ 16
+due_small true = omega arith
+due_small false = omega arith
+
 pub sent_fits : (s : Sender) (n : ℕ) → exported_sent (send_of s n).answer < 2 ^ 32
 sent_fits s n = go (send_of s n).answer refl
   where
-    due_small : (t : Bool) → cond t 16 0 ≤ 16
-    due_small true = omega arith
-    due_small false = omega arith
-
     go : (a : Sent) → (send_of s n).answer ≡ a → exported_sent a < 2 ^ 32
     go (Ok went) e = omega (arith, line_small s n went.line went.due e, due_small went.due)
     go (Err refusal) e = omega (arith, small refusal)
+
+-- one that goes is read as no refusal
+pub goes_unrefused : (s : Sender) (n : ℕ) (went : Went) → (send_of s n).answer ≡ Ok went → refused_in (exported_sent (send_of s n).answer) ≡ false
+goes_unrefused s n went e = rw e (below_256 (went.line + cond went.due 16 0) (omega (arith, sent_on_line s n went.line went.due e, due_small went.due)))

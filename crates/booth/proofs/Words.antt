@@ -7,7 +7,7 @@ use mathlib.Core.Bool.{true, false}
 use mathlib.Core.List.{List}
 use borrow.Author.Tests.{eq-eqb, ne_eqb}
 use Rattle.numbers.specs.Coding.{Reading, reading_of, coded}
-use Rattle.std.specs.Prelude.{Bool, true, false, cond, eqb, Some, None, Ok, Err}
+use Rattle.std.specs.Prelude.{Bool, true, false, eqb, Some, None, Ok, Err}
 use Rattle.numbers.specs.Writing.{Written, length_of}
 use Rattle.numbers.specs.Writing as writing
 use Rattle.numbers.proofs.Laws.{place, size}
@@ -23,7 +23,7 @@ use Rattle.sending.specs.declared.Sender.{Sender}
 use Rattle.sending.specs.Sender.{Sent, went_to, open_sender, send_of, marker_from}
 use Rattle.sending.proofs.Promises.{sent_on_line}
 use Rattle.booth.specs.Exports.{exported, written_in, exported_reading, reading_in, exported_marker, marker_in, exported_sent, sent_in}
-use Rattle.booth.proofs.Small.{value_short, plan_short, written_short, asked_short}
+use Rattle.booth.proofs.Small.{value_short, plan_short, written_short, asked_short, goes_unrefused}
 use Rattle.numbers.specs.Refusals.{number, number_of}
 use Rattle.numbers.proofs.Checks.{never, small}
 use Rattle.numbers.specs.declared.Refusal.{Refusal}
@@ -168,15 +168,9 @@ pub sent_number : (s : Sender) (n : ℕ) → refused_in (exported_sent (send_of 
     → number_in (exported_sent (send_of s n).answer) ≡ number_of (send_of s n).answer
 sent_number s n = go (send_of s n).answer refl
   where
-    flag : (due : Bool) → cond due 16 0 ≤ 16
-    flag true = omega arith
-    flag false = omega arith
-
     go : (t : Sent) → (send_of s n).answer ≡ t → refused_in (exported_sent (send_of s n).answer) ≡ true
         → number_in (exported_sent (send_of s n).answer) ≡ number_of (send_of s n).answer
-    go (Ok went) e h =
-        let low : went.line + cond went.due 16 0 < 256 = omega (arith, sent_on_line s n went.line went.due e, flag went.due) in
-        absurd (never (sym h ∙ ap (λ (t : Sent). refused_in (exported_sent t)) e ∙ below_256 (went.line + cond went.due 16 0) low))
+    go (Ok went) e h = absurd (never (sym h ∙ goes_unrefused s n went e))
     go (Err k) e h = ap (λ (t : Sent). number_in (exported_sent t)) e ∙ (refusal_read (number k) (omega (arith, small k))).1 ∙ sym (ap number_of e)
 
 -- ---- of a refusal C's macros give nothing that there is: no place, no line, no counter; and no markers are due
